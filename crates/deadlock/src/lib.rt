@@ -1,0 +1,2 @@
+pub mod elimination;
+pub mod ring;

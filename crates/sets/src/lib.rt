@@ -1,0 +1,65 @@
+ghost use mathlib.Core.Path.{_≡_};
+ghost use mathlib.Core.Bool.{true};
+ghost use mathlib.Core.Logic.{_↔_, _⊎_};
+ghost use Prim.Native.Nat.{ℕ, _<_};
+ghost use Rattle.sets.specs.Set.{Has, size, LowestOf};
+
+// Whether the task is in the set.
+pub fn has(set: u32, task: usize) -> bool
+    ensures { λ r. ⌜ ((r ≡ true) ↔ Has set task) ⌝ }
+{
+    if task < 32 {
+        (set >> task) % 2 == 1
+    } else {
+        false
+    }
+}
+
+// The set of one task; of none, where the number is no task's.
+pub fn only(task: usize) -> u32
+    ensures { λ r. ⌜ ((k : ℕ) → Has r k ↔ ((k < 32) × (k ≡ task))) ⌝ }
+{
+    if task < 32 { 1u32 << task } else { 0 }
+}
+
+// Those in both sets.
+pub fn common(a: u32, b: u32) -> u32
+    ensures { λ r. ⌜ ((k : ℕ) → Has r k ↔ (Has a k × Has b k)) ⌝ }
+{
+    a & b
+}
+
+// Those of the first set that are not in the second.
+pub fn less(a: u32, b: u32) -> u32
+    ensures { λ r. ⌜ ((k : ℕ) → Has r k ↔ (Has a k × (Has b k → ⊥))) ⌝ }
+{
+    a - (a & b)
+}
+
+// The set with the task put into it.
+pub fn put(set: u32, task: usize) -> u32
+    ensures { λ r. ⌜ ((k : ℕ) → Has r k ↔ (Has set k ⊎ ((k < 32) × (k ≡ task)))) ⌝ }
+{
+    set | only(task)
+}
+
+// The set with the task taken out of it.
+pub fn take(set: u32, task: usize) -> u32
+    ensures { λ r. ⌜ ((k : ℕ) → Has r k ↔ (Has set k × (k ≡ task → ⊥))) ⌝ }
+{
+    less(set, only(task))
+}
+
+// How many tasks the set has.
+pub fn size(set: u32) -> u32
+    ensures { λ r. ⌜ r ≡ size set 32 ⌝ }
+{
+    u32::count_ones(set)
+}
+
+// The lowest task of the set, or 32.
+pub fn lowest(set: u32) -> usize
+    ensures { λ r. ⌜ LowestOf set r ⌝ }
+{
+    u32::trailing_zeros(set) as usize
+}
