@@ -1,0 +1,9 @@
+pub mod Answers
+pub mod Every
+pub mod Table
+pub mod Sound
+pub mod Waiting
+pub mod Tests
+pub mod Effects
+pub mod Calls
+pub mod Rules
