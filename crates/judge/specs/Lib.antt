@@ -1,0 +1,2 @@
+pub mod Routes
+pub mod Verdict
