@@ -2,9 +2,9 @@
 -- ring's length; the ring's task numbers, filled up to 32 places with 255." "Longer strips keep the rest."
 use mathlib.Core.Bool.{cond}
 use mathlib.Core.List.{List, [], _∷_, _++_}
-use Prim.Native.Nat.{ℕ, _/_, _%_}
+use Prim.Native.Nat.{ℕ, _+_, _*_, _/_, _%_}
 use lib.Dec.{eqb}
-use lib.ListN.{drop}
+use lib.ListN.{drop, getD, take}
 use Rattle.hall.specs.Answers.{done}
 use Rattle.judge.specs.declared.verdict.Verdict.{Verdict}
 
@@ -19,3 +19,13 @@ stripOf v = headOf v ++ v .ring
 -- the strip after a verdict: on a refusal "exactly as before"
 unfoldable pub stripAfter : Verdict → List ℕ → List ℕ
 stripAfter v strip = cond (eqb (v .answer) done) (stripOf v ++ drop 38 strip) strip
+
+-- what a host reads in a strip after answer 0
+unfoldable pub verdictIn : List ℕ → Verdict
+verdictIn strip = record {
+  answer = done;
+  named = getD strip 0 0 + getD strip 1 0 * 256 + getD strip 2 0 * 65536 + getD strip 3 0 * 16777216;
+  count = getD strip 4 0;
+  length = getD strip 5 0;
+  ring = take 32 (drop 6 strip);
+}
