@@ -11,11 +11,18 @@ use Rattle.hall.specs.Answers.{done}
 use Rattle.judge.specs.declared.verdict.Verdict.{Verdict}
 use Rattle.mollavisce.specs.Strip.{stripOf, stripAfter, verdictIn}
 
+byte : (q : ℕ) → q ≡ q / 256 * 256 + q % 256
+byte q = omega arith
+
+-- a number of four bytes is what its bytes say
 bytes-of : (m : ℕ) → m < 2 ^ 32 → m % 256 + m / 256 % 256 * 256 + m / 65536 % 256 * 65536 + m / 16777216 % 256 * 16777216 ≡ m
 bytes-of m h =
-    let two : m / 256 / 256 ≡ m / 65536 = div-div-eq-div-mul m 256 256 in
-    let three : m / 65536 / 256 ≡ m / 16777216 = div-div-eq-div-mul m 65536 256 in
-    omega arith
+    join m (m / 256) (m / 65536) (m / 16777216) (m % 256) (m / 256 % 256) (m / 65536 % 256) (m / 16777216 % 256) (byte m)
+    (rw (div-div-eq-div-mul m 256 256) at (byte (m / 256))) (rw (div-div-eq-div-mul m 65536 256) at (byte (m / 65536))) (omega arith)
+  where
+    join : (m q1 q2 q3 r0 r1 r2 r3 : ℕ) → m ≡ q1 * 256 + r0 → q1 ≡ q2 * 256 + r1 → q2 ≡ q3 * 256 + r2 → q3 ≡ r3
+        → r0 + r1 * 256 + r2 * 65536 + r3 * 16777216 ≡ m
+    join m q1 q2 q3 r0 r1 r2 r3 a b c d = omega arith
 
 module _ (v : Verdict) (fits : v .named < 2 ^ 32) (places : length (v .ring) ≡ 32) (accepted : v .answer ≡ done) where
   pub strip-read : (rest : List ℕ) → verdictIn (stripOf v ++ rest) ≡ v
