@@ -1,1 +1,2 @@
-pub mod strip;
+pub mod entry;
+mod strip;
