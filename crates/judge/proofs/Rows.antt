@@ -53,7 +53,7 @@ module _ (t : Table) (among : ℕ) where
       here = let z = g .long in getD-set-same rows k by 0 (omega arith)
 
       row : (u : ℕ) → Has by u ↔ (Has among u × Impedes t u (eventOf (stateAt t k)))
-      row = subst (λ f. (u : ℕ) → Has by u ↔ (Has among u × Impedes t u f)) (event-read t k e l is) (sift-done _ among by s)
+      row = subst (λ f. (u : ℕ) → Has by u ↔ (Has among u × Impedes t u f)) (event-read t k l e is) (sift-done _ among by s)
 
       mine : (u : ℕ) → Has (getD (set rows k by) k 0) u ↔ ((Has among k × (Has rest k → ⊥)) × Has among u × ImpedesTask t k u)
       mine u = rw here (

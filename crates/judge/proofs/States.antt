@@ -25,7 +25,7 @@ and-inv true b e = (refl, e)
 and-inv false b e = absurd (false≢true e)
 
 -- ---- states
-pub state-read : (t : Table) (k : ℕ) → k < 32 → getD (t .tasks) k freeTask .state ≡ stateAt t k
+state-read : (t : Table) (k : ℕ) → k < 32 → getD (t .tasks) k freeTask .state ≡ stateAt t k
 unfolding stateAt
 state-read t k l = rw (lt-ltb k 32 l) refl
 
@@ -69,7 +69,7 @@ same-inv e f h =
     let n = eqb-true (e .phase .0) (f .phase .0) (b .1) in
     λ i. record { phaser = record { 0 = p i }; phase = record { 0 = n i } }
 
-pub awaits-iff : (s : State) (e : Event) → (awaitsOf s e ≡ true) ↔ (s ≡ Blocked e)
+awaits-iff : (s : State) (e : Event) → (awaitsOf s e ≡ true) ↔ (s ≡ Blocked e)
 unfolding awaitsOf sameOf
 awaits-iff s e = (into s, from s)
   where
@@ -83,7 +83,7 @@ awaits-iff s e = (into s, from s)
 
 -- ---- who impedes
 -- the code's entry is the one of the event's phaser, where there is such a phaser
-pub slow-is : (t : Table) (u : ℕ) (e : Event) → u < 32
+slow-is : (t : Table) (u : ℕ) (e : Event) → u < 32
     → slow (getD (t .members) (u * 16 + e .phaser .0 % 16) false) (getD (t .phases) (u * 16 + e .phaser .0 % 16) phase0) e ≡ impedesOf t u e
 unfolding slow impedesOf memberAt phaseAt
 slow-is t u e l = go (ltb (e .phaser .0) 16) refl
@@ -93,11 +93,6 @@ slow-is t u e l = go (ltb (e .phaser .0) 16) refl
         ≡ behind (ltb u 32 && ltb (e .phaser .0) 16 && getD (t .members) (u * 16 + e .phaser .0) false) (cond (ltb u 32 && ltb (e .phaser .0) 16) (getD (t .phases) (u * 16 + e .phaser .0) phase0 .0) 0) (e .phase .0)
     go true q = rw (lt-ltb u 32 l, q, mod-eq-of-lt (ltb-true (e .phaser .0) 16 q)) refl
     go false q = rw (lt-ltb u 32 l, q) refl
-
--- as the code has it, with the column in a local of its own
-pub entry-is : (t : Table) (u p : ℕ) (e : Event) → p ≡ e .phaser .0 % 16 → u < 32
-    → slow (getD (t .members) (u * 16 + p) false) (getD (t .phases) (u * 16 + p) phase0) e ≡ impedesOf t u e
-entry-is t u p e c l = ap (λ q. slow (getD (t .members) (u * 16 + q) false) (getD (t .phases) (u * 16 + q) phase0) e) c ∙ slow-is t u e l
 
 -- a task that impedes has a number below 32
 pub impedes-lt : (t : Table) (u : ℕ) (e : Event) → Impedes t u e → u < 32
@@ -126,6 +121,25 @@ impedes-task t k u = (λ h. go (stateAt t k) refl h, λ i. subst (λ e. Impedes 
     go Running q h = absurd (no-phaser t u h)
     go (Blocked e) q h = record { event = e; waits = q; impedes = h }
 
--- the event that the code reads is the task's
-pub event-read : (t : Table) (k : ℕ) (e : Event) → k < 32 → e ≡ eventOf (getD (t .tasks) k freeTask .state) → e ≡ eventOf (stateAt t k)
-event-read t k e l h = h ∙ ap eventOf (state-read t k l)
+-- ---- what the code reads, at a task below 32
+module _ (t : Table) (k : ℕ) (l : k < 32) where
+  -- its event
+  pub event-read : (e : Event) → e ≡ eventOf (getD (t .tasks) k freeTask .state) → e ≡ eventOf (stateAt t k)
+  event-read e h = h ∙ ap eventOf (state-read t k l)
+
+  -- whether it is blocked
+  pub blocked-read : (b : Bool) → b ≡ isBlocked (getD (t .tasks) k freeTask .state) → (b ≡ true) ↔ (isBlocked (stateAt t k) ≡ true)
+  blocked-read b h = let q = h ∙ ap isBlocked (state-read t k l) in (λ y. sym q ∙ y, λ y. q ∙ y)
+
+  -- whether it awaits e
+  pub awaits-read : (e : Event) (b : Bool) → b ≡ awaitsOf (getD (t .tasks) k freeTask .state) e → (b ≡ true) ↔ BlockedOn t k e
+  awaits-read e b h =
+      let q = h ∙ ap (λ s. awaitsOf s e) (state-read t k l) in
+      (λ y. awaits-iff (stateAt t k) e .0 (sym q ∙ y), λ y. q ∙ awaits-iff (stateAt t k) e .1 y)
+
+  -- whether it impedes e
+  pub impedes-read : (e : Event) (p : ℕ) (b : Bool) → p ≡ e .phaser .0 % 16
+      → b ≡ slow (getD (t .members) (k * 16 + p) false) (getD (t .phases) (k * 16 + p) phase0) e → (b ≡ true) ↔ Impedes t k e
+  impedes-read e p b c h =
+      let q = h ∙ ap (λ j. slow (getD (t .members) (k * 16 + j) false) (getD (t .phases) (k * 16 + j) phase0) e) c ∙ slow-is t k e l in
+      (λ y. sym q ∙ y, λ y. q ∙ y)

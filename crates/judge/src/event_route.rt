@@ -5,7 +5,6 @@ use crate::reading::event_of;
 use crate::reading::impedes;
 use crate::reading::kept;
 use hall::table::Table;
-
 ghost use Rattle.judge.specs.Routes.{EventRoute};
 
 // The tasks whose event starts an endless walk. A set of events is held as the tasks that await them: the lowest of `todo` stands for its

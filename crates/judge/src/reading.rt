@@ -4,7 +4,6 @@ use hall::table::PhaserNo;
 use hall::table::State;
 use hall::table::Table;
 use hall::table::Task;
-
 ghost use mathlib.Core.Path.{_≡_};
 ghost use mathlib.Core.Bool.{true};
 ghost use mathlib.Core.Logic.{_↔_};
@@ -87,11 +86,7 @@ pub fn impedes(member: bool, phase: Phase, event: Event) -> bool
 pub fn kept(set: u32, task: usize, stays: bool) -> u32
     ensures { λ r. ⌜ ((k : ℕ) → Has r k ↔ (Has set k × (k ≡ task → stays ≡ true))) ⌝ }
 {
-    if stays {
-        set
-    } else {
-        sets::take(set, task)
-    }
+    if stays { set } else { sets::take(set, task) }
 }
 
 // The blocked tasks.

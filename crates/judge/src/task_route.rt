@@ -3,7 +3,6 @@ use crate::reading::event_of;
 use crate::reading::impedes;
 use crate::reading::kept;
 use hall::table::Table;
-
 ghost use Rattle.judge.specs.Loops.{RowsOf};
 
 // For each of `among`, those of `among` that impede its event.

@@ -1,11 +1,11 @@
 -- The invariant: of the tasks that were looked at, the blocked ones are kept.
-use mathlib.Core.Path.{_≡_, refl, sym, ap, _∙_}
+use mathlib.Core.Path.{_≡_}
 use mathlib.Core.Bool.{true}
 use Prim.Native.Nat.{_-_, _^_, _<_}
 use native.Mathlib.Omega.{arith}
 use Rattle.hall.specs.Table.{isBlocked, stateAt}
 use Rattle.sets.proofs.Loops.{Sifted, sift-start}
-use Rattle.judge.proofs.States.{state-read, blockeds}
+use Rattle.judge.proofs.States.{blocked-read, blockeds}
 use Rattle.judge.proofs.Sets.{lowest-lt, lowest-less, sift-more}
 use Rattle.judge.proofs.reading.blocked.Statement.{statement}
 use Rattle.judge.proofs.reading.blocked.Tie as tie
@@ -46,9 +46,8 @@ loop-again : tie.Need-loop-again Inv-loop μ-loop
 loop-again c =
     let at = c .before .before .before .before .before in
     let low = c .before .before .before .before .lowest .ensures in
-    let is = ap isBlocked (state-read _ _ (lowest-lt (at .before .loop .inv .0) (at .loop-test .taken) low)) in
-    let was = c .before .before .is-blocked .ensures in
-    (c .take .ok, sift-more _ (at .before .loop .inv .1) (c .take .ensures) (λ h. sym (was ∙ is) ∙ h, λ h. was ∙ is ∙ h) (c .before .kept .ensures))
+    let iff = blocked-read _ _ (lowest-lt (at .before .loop .inv .0) (at .loop-test .taken) low) _ (c .before .before .is-blocked .ensures) in
+    (c .take .ok, sift-more _ (at .before .loop .inv .1) (c .take .ensures) iff (c .before .kept .ensures))
 
 returns : tie.Need-returns Inv-loop μ-loop
 returns c = blockeds _ _ (rw (c .loop-test .left) at (c .before .loop .inv .1))

@@ -1,10 +1,10 @@
 -- The invariants: outside, the rows of those that are not in `todo` are filled; inside, of those that were looked at, the ones that impede are kept.
-use mathlib.Core.Path.{_≡_, refl, sym, ap, _∙_, subst}
+use mathlib.Core.Path.{_≡_}
 use Prim.Native.Nat.{_^_, _<_}
 use native.Mathlib.Omega.{arith}
 use Rattle.hall.specs.Waiting.{Impedes}
 use Rattle.sets.proofs.Loops.{Sifted, sift-start}
-use Rattle.judge.proofs.States.{entry-is}
+use Rattle.judge.proofs.States.{impedes-read}
 use Rattle.judge.proofs.Sets.{lowest-has, lowest-lt, lowest-less, sift-more}
 use Rattle.judge.proofs.Rows.{Filled, fill-start, fill-more, fill-done}
 use Rattle.judge.proofs.task_route.edges.Statement.{statement}
@@ -28,11 +28,15 @@ loop-holds c = fill-start _ _ (c .fits .among .fits)
 lowest-requires : tie.Need-lowest-requires Inv-loop2 μ-loop2 Inv-loop μ-loop
 lowest-requires c κs = tt
 
+-- the task whose row is filled
+at : (c : tie.After-lowest Inv-loop2 μ-loop2 Inv-loop μ-loop) → c .lowest .result < 32
+at c = lowest-lt (c .before .before .loop .inv .fits) (c .before .loop-test .taken) (c .lowest .ensures)
+
 mul-task : tie.Need-mul-task Inv-loop2 μ-loop2 Inv-loop μ-loop
-mul-task c = let l = lowest-lt (c .before .before .loop .inv .fits) (c .before .loop-test .taken) (c .lowest .ensures) in omega arith
+mul-task c = let l = at c in omega arith
 
 element-copy-out-task : tie.Need-element-copy-out-task Inv-loop2 μ-loop2 Inv-loop μ-loop
-element-copy-out-task c = lowest-lt (c .before .before .loop .inv .fits) (c .before .loop-test .taken) (c .lowest .ensures)
+element-copy-out-task c = at c
 
 event-of-requires : tie.Need-event-of-requires Inv-loop2 μ-loop2 Inv-loop μ-loop
 event-of-requires c κs = tt
@@ -46,35 +50,24 @@ loop2-holds c = (c .before .before .before .before .before .before .fits .among 
 lowest-requires-2 : tie.Need-lowest-requires-2 Inv-loop2 μ-loop2 Inv-loop μ-loop
 lowest-requires-2 c κs = tt
 
+-- the task that is looked at
+near : (c : tie.After-lowest2 Inv-loop2 μ-loop2 Inv-loop μ-loop) → c .lowest2 .result < 32
+near c = lowest-lt (c .before .before .loop2 .inv .0) (c .before .loop2-test .taken) (c .lowest2 .ensures)
+
 mul-at : tie.Need-mul-at Inv-loop2 μ-loop2 Inv-loop μ-loop
-mul-at c =
-    let l = lowest-lt (c .before .before .loop2 .inv .0) (c .before .loop2-test .taken) (c .lowest2 .ensures) in
-    let p = c .before .before .before .column .ensures in
-    omega arith
+mul-at c = let l = near c in omega arith
 
 add-at : tie.Need-add-at Inv-loop2 μ-loop2 Inv-loop μ-loop
-add-at c =
-    let l = lowest-lt (c .before .before .loop2 .inv .0) (c .before .loop2-test .taken) (c .lowest2 .ensures) in
-    let p = c .before .before .before .column .ensures in
-    omega arith
+add-at c = let l = near c in let p = c .before .before .before .column .ensures in omega arith
 
 mul-phase : tie.Need-mul-phase Inv-loop2 μ-loop2 Inv-loop μ-loop
-mul-phase c =
-    let l = lowest-lt (c .before .before .loop2 .inv .0) (c .before .loop2-test .taken) (c .lowest2 .ensures) in
-    let p = c .before .before .before .column .ensures in
-    omega arith
+mul-phase c = let l = near c in let p = c .before .before .before .column .ensures in omega arith
 
 element-copy-out-phase : tie.Need-element-copy-out-phase Inv-loop2 μ-loop2 Inv-loop μ-loop
-element-copy-out-phase c =
-    let l = lowest-lt (c .before .before .loop2 .inv .0) (c .before .loop2-test .taken) (c .lowest2 .ensures) in
-    let p = c .before .before .before .column .ensures in
-    omega arith
+element-copy-out-phase c = let l = near c in let p = c .before .before .before .column .ensures in omega arith
 
 element-copy-out-impedes : tie.Need-element-copy-out-impedes Inv-loop2 μ-loop2 Inv-loop μ-loop
-element-copy-out-impedes c =
-    let l = lowest-lt (c .before .before .before .loop2 .inv .0) (c .before .before .loop2-test .taken) (c .before .lowest2 .ensures) in
-    let p = c .before .before .before .before .column .ensures in
-    omega arith
+element-copy-out-impedes c = let l = near (c .before) in let p = c .before .before .before .before .column .ensures in omega arith
 
 impedes-requires : tie.Need-impedes-requires Inv-loop2 μ-loop2 Inv-loop μ-loop
 impedes-requires c κs = tt
@@ -92,39 +85,25 @@ loop2-less c =
 
 loop2-again : tie.Need-loop2-again Inv-loop2 μ-loop2 Inv-loop μ-loop
 loop2-again c =
-    let at = c .before .before .before .before .before .before in
-    let l = lowest-lt (at .before .loop2 .inv .0) (at .loop2-test .taken) (c .before .before .before .before .before .lowest2 .ensures) in
-    let p = at .before .before .column .ensures in
-    let is = entry-is _ _ _ _ p l in
-    let was = c .before .before .impedes .ensures in
-    (c .take .ok, sift-more _ (at .before .loop2 .inv .1) (c .take .ensures) (λ h. sym (was ∙ is) ∙ h, λ h. was ∙ is ∙ h) (c .before .kept .ensures))
+    let iff = impedes-read _ _ (near (c .before .before .before .before .before)) _ _ _ (c .before .before .before .before .before .before .before .before .column .ensures) (c .before .before .impedes .ensures) in
+    (c .take .ok, sift-more _ (c .before .before .before .before .before .before .before .loop2 .inv .1) (c .take .ensures) iff (c .before .kept .ensures))
 
 mul-rows : tie.Need-mul-rows Inv-loop2 μ-loop2 Inv-loop μ-loop
-mul-rows c =
-    let at = c .before .before .before .before .before .before in
-    let l = lowest-lt (at .before .loop .inv .fits) (at .loop-test .taken) (c .before .before .before .before .before .lowest .ensures) in
-    omega arith
+mul-rows c = let l = at (c .before .before .before .before .before) in omega arith
 
 array-write-rows : tie.Need-array-write-rows Inv-loop2 μ-loop2 Inv-loop μ-loop
-array-write-rows c =
-    let at = c .before .before .before .before .before .before in
-    lowest-lt (at .before .loop .inv .fits) (at .loop-test .taken) (c .before .before .before .before .before .lowest .ensures)
+array-write-rows c = at (c .before .before .before .before .before)
 
 take-requires-2 : tie.Need-take-requires-2 Inv-loop2 μ-loop2 Inv-loop μ-loop
 take-requires-2 c κs = tt
 
 loop-less : tie.Need-loop-less Inv-loop2 μ-loop2 Inv-loop μ-loop
-loop-less c =
-    let at = c .before .before .before .before .before .before .before in
-    lowest-less (at .before .loop .inv .fits) (at .loop-test .taken) (c .before .before .before .before .before .before .lowest .ensures) _ (c .take2 .ok) (c .take2 .ensures)
+loop-less c = lowest-less (c .before .before .before .before .before .before .before .before .loop .inv .fits) (c .before .before .before .before .before .before .before .loop-test .taken) (c .before .before .before .before .before .before .lowest .ensures) _ (c .take2 .ok) (c .take2 .ensures)
 
 loop-again : tie.Need-loop-again Inv-loop2 μ-loop2 Inv-loop μ-loop
 loop-again c =
-    let at = c .before .before .before .before .before .before .before in
-    let low = c .before .before .before .before .before .before .lowest .ensures in
-    fill-more _ _ _ _ _ _ _ _ (at .before .loop .inv) (lowest-lt (at .before .loop .inv .fits) (at .loop-test .taken) low)
-    (lowest-has (at .before .loop .inv .fits) (at .loop-test .taken) low) (c .take2 .ok) (c .take2 .ensures) (c .before .before .before .before .event-of .ensures)
-    (rw (c .before .loop2-test .left) at (c .before .before .loop2 .inv .1))
+    fill-more _ _ _ _ _ _ _ _ (c .before .before .before .before .before .before .before .before .loop .inv) (at (c .before .before .before .before .before .before)) (lowest-has (c .before .before .before .before .before .before .before .before .loop .inv .fits) (c .before .before .before .before .before .before .before .loop-test .taken) (c .before .before .before .before .before .before .lowest .ensures)) (c .take2 .ok)
+    (c .take2 .ensures) (c .before .before .before .before .event-of .ensures) (rw (c .before .loop2-test .left) at (c .before .before .loop2 .inv .1))
 
 returns : tie.Need-returns Inv-loop2 μ-loop2 Inv-loop μ-loop
 returns c = fill-done _ _ _ (rw (c .loop-test .left) at (c .before .loop .inv))
