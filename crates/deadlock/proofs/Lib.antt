@@ -1,2 +1,4 @@
 pub mod Walks
 pub mod Theory
+pub mod Clearing
+pub mod Twins
