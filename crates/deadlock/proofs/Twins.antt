@@ -10,7 +10,7 @@ use lib.Dec.{ltb, eqb}
 use lib.Bits.{bitAnd, and-le-r}
 use borrow.Author.Tests.{lt-ltb, le-ltb, eq-eqb, ne-eqb}
 use Rattle.sets.specs.Set.{bit, Has}
-use Rattle.sets.proofs.Members.{Taken, and-iff, less-iff, power-iff, taken-lt}
+use Rattle.sets.proofs.Members.{and-iff, without-taken, taken-lt}
 use Rattle.deadlock.specs.Walk.{Row, NamedBy}
 use Rattle.deadlock.proofs.Clearing.{Clearing, clear-pass, clear-done, rows-start, rows-drop, rows-keep}
 
@@ -19,23 +19,12 @@ abbrev choose : Bool → (Unit {0} → ℕ) → (Unit {0} → ℕ) → ℕ
 choose true a b = a tt
 choose false a b = b tt
 
-without : ℕ → ℕ → ℕ
-without m t = m - bitAnd m (2 ^ t)
-
-without-taken : (m t : ℕ) → Taken m t (without m t)
-unfolding without
-without-taken m t k =
-    let e = less-iff m (2 ^ t) k in
-    let p = power-iff t k in
-    (λ h. let r = e .0 h in (r .0, λ q. r .1 (p .1 q)), λ h. e .1 (h .0, λ q. h .1 (p .0 q)))
-
 unfoldable clear : ℕ → List ℕ → ℕ → ℕ → ℕ
-unfolding without
 clear zero rows m t = m
 clear (suc fuel) rows m t =
     choose (ltb t 32)
     (λ _. choose (eqb (bit m t) 1)
-    (λ _. choose (eqb (bitAnd (getD rows t 0) m) 0) (λ _. clear fuel rows (without m t) 0) (λ _. clear fuel rows m (t + 1)))
+    (λ _. choose (eqb (bitAnd (getD rows t 0) m) 0) (λ _. clear fuel rows (m - bitAnd m (2 ^ t)) 0) (λ _. clear fuel rows m (t + 1)))
     (λ _. clear fuel rows m (t + 1)))
     (λ _. m)
 
@@ -44,7 +33,7 @@ unfolding clear
 namedOf rows = clear (2 ^ 32 * 33) rows (2 ^ 32 - 1) 0
 
 clear-named : (fuel : ℕ) (rows : List ℕ) (m t : ℕ) → m * 33 + (32 - t) < fuel → Clearing (Row rows) m t → NamedBy (Row rows) (clear fuel rows m t)
-unfolding clear without
+unfolding clear
 clear-named zero rows m t h g = absurd (omega arith)
 clear-named (suc fuel) rows m t h g = turn (decLt t 32) (ℕ-discrete (bit m t) 1) (ℕ-discrete (bitAnd (getD rows t 0) m) 0) (clear-named fuel rows)
   where
@@ -61,10 +50,10 @@ clear-named (suc fuel) rows m t h g = turn (decLt t 32) (ℕ-discrete (bit m t) 
         rw (lt-ltb t 32 l, eq-eqb (bit m t) 1 b, ne-eqb (bitAnd (getD rows t 0) m) 0 c)
         (r m (t + 1) (omega arith) (rows-keep rows m t _ g l (and-iff (getD rows t 0) m) (omega arith) c))
     turn (yes l) (yes b) (yes c) r =
-        let x : without m t < 2 ^ 32 = omega arith in
-        let y = taken-lt 32 m t (without m t) x b (without-taken m t) in
+        let x : m - bitAnd m (2 ^ t) < 2 ^ 32 = omega arith in
+        let y = taken-lt 32 m t (m - bitAnd m (2 ^ t)) x b (without-taken m t) in
         rw (lt-ltb t 32 l, eq-eqb (bit m t) 1 b, eq-eqb (bitAnd (getD rows t 0) m) 0 c)
-        (r (without m t) 0 (omega arith) (rows-drop rows m t _ g l (and-iff (getD rows t 0) m) c (without m t) x (without-taken m t)))
+        (r (m - bitAnd m (2 ^ t)) 0 (omega arith) (rows-drop rows m t _ g l (and-iff (getD rows t 0) m) c (m - bitAnd m (2 ^ t)) x (without-taken m t)))
 
 pub namedOf-named : (rows : List ℕ) → NamedBy (Row rows) (namedOf rows)
 unfolding namedOf
