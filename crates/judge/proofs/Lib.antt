@@ -2,3 +2,4 @@ pub mod States
 pub mod Sets
 pub mod Rows
 pub mod Events
+pub mod Tasks
