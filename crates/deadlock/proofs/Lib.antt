@@ -10,3 +10,4 @@ pub mod Turns
 pub mod Moves
 pub mod Twins
 pub mod One
+pub mod Examples
