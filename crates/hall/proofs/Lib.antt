@@ -8,3 +8,4 @@ pub mod Changes
 pub mod ByKind
 pub mod Kept
 pub mod Answered
+pub mod Frame
