@@ -28,15 +28,17 @@ use Rattle.hall.proofs.Rows.{Row, row-accepted, row-effect, OpenTask, o
 use Rattle.hall.proofs.Written.{Reads, putAt, putRow, put-here, state-below, open-below, state-shaped, state-reads, entry-shaped, entry-reads, open-shaped, open-reads, row-shaped, row-reads}
 
 -- ---- the numbers that opening gives
-pub free-lowest : (t : Table) → lowestFree t < 32 → (isFree (stateAt t (lowestFree t)) ≡ true) × ((k : ℕ) → k < lowestFree t → isFree (stateAt t k) ≡ false)
+pub free-lowest : (t : Table) → (lowestFree t < 32 → isFree (stateAt t (lowestFree t)) ≡ true) × ((k : ℕ) → k < lowestFree t → isFree (stateAt t k) ≡ false)
 unfolding lowestFree
-free-lowest t l =
-    (lowest-holds (λ k. isFree (stateAt t k)) 0 32 (omega arith), λ k h. lowest-lower (λ k. isFree (stateAt t k)) 0 32 k (omega arith) h)
+free-lowest t = (
+  λ l. lowest-holds (λ k. isFree (stateAt t k)) 0 32 (omega arith),
+  λ k h. lowest-lower (λ k. isFree (stateAt t k)) 0 32 k (omega arith) h,
+)
 
-pub unopened-lowest : (t : Table) → lowestUnopened t < 16 → (openAt t (lowestUnopened t) ≡ false) × ((p : ℕ) → p < lowestUnopened t → openAt t p ≡ true)
+pub unopened-lowest : (t : Table) → (lowestUnopened t < 16 → openAt t (lowestUnopened t) ≡ false) × ((p : ℕ) → p < lowestUnopened t → openAt t p ≡ true)
 unfolding lowestUnopened
-unopened-lowest t l = (
-  not-true (openAt t (lowestUnopened t)) (lowest-holds (λ p. not (openAt t p)) 0 16 (omega arith)),
+unopened-lowest t = (
+  λ l. not-true (openAt t (lowestUnopened t)) (lowest-holds (λ p. not (openAt t p)) 0 16 (omega arith)),
   λ p h. not-false (openAt t p) (lowest-lower (λ p. not (openAt t p)) 0 16 p (omega arith) h),
 )
 
