@@ -2,7 +2,6 @@
 use mathlib.Core.Logic.{_↔_}
 use Prim.Native.Nat.{ℕ, _<_}
 use Rattle.hall.specs.Calls.{callOf}
-use Rattle.hall.specs.declared.calls.Called.{Called}
 use Rattle.hall.specs.declared.table.Table.{Table}
 use Rattle.hall.proofs.Rows.{row-accepted, OpenTask, open-task-row, EndTask, end-task-row, OpenPhaser, open-phaser-row, ClosePhaser, close-phaser-row, Admit, admit-row, Member, leave-row, Arrive, arrive-row, wait-row, WaitAt, wait-at-row, Release, release-row}
 

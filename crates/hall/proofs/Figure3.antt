@@ -1,16 +1,16 @@
 -- The calls are figure 3's rules. Each statement has the rule, and beside it what document 01 adds (a sound table, a caller that runs, numbers in
 -- range, phases up to 65,535, the lowest free number) or narrows (a target that runs), and nothing else.
 use mathlib.Core.Path.{_≡_, refl, ap, sym, _∙_, subst}
-use mathlib.Core.Logic.{_⊎_, inl, inr, _↔_}
-use mathlib.Core.Bool.{Bool, true, false, cond}
-use mathlib.Core.Option.{Option, some, none, Option·some-injective}
+use mathlib.Core.Logic.{inl, inr, _↔_}
+use mathlib.Core.Bool.{Bool, true, false}
+use mathlib.Core.Option.{some, none, Option·some-injective}
 use Prim.Native.Nat.{ℕ, _+_, _<_, _≤_}
 use native.Mathlib.Omega.{arith}
 use lib.Dec.{ltb, lit<}
 use borrow.Author.Tests.{ltb-true, ltb-false}
-use Rattle.hall.specs.Answers.{done, waitPassed, nowBlocked}
-use Rattle.hall.specs.Calls.{called, callOf}
-use Rattle.hall.specs.Rules.{put, Phaser, PhaserMap, Await, Add, Drop, Adv, AddP, Upd, NewP, Reg, Dereg, Arrv, AwaitN, AwaitOwn, phaserOf, phasersOf}
+use Rattle.hall.specs.Answers.{waitPassed, nowBlocked}
+use Rattle.hall.specs.Calls.{callOf}
+use Rattle.hall.specs.Rules.{put, Phaser, PhaserMap, Await, Add, Drop, Adv, Upd, NewP, Reg, Dereg, Arrv, AwaitN, AwaitOwn, phaserOf, phasersOf}
 use Rattle.hall.specs.Sound.{Sound, soundOf}
 use Rattle.hall.specs.Table.{largestPhase, stateAt, openAt, memberAt, phaseAt, isLive, isBlocked, event, Shaped}
 use Rattle.hall.specs.Tests.{lowestUnopened}
@@ -22,10 +22,9 @@ use Rattle.hall.specs.declared.table.State.the-variants.{Free, Running, 
 use Rattle.hall.specs.declared.table.Table.{Table}
 use Rattle.hall.proofs.Accepted.{open-phaser-accepted, admit-accepted, leave-accepted, arrive-accepted, wait-accepted, wait-at-accepted, release-accepted}
 use Rattle.hall.proofs.ByKind.{next-table}
-use Rattle.hall.proofs.Changes.{Waited, blocks, releases, unopened-lowest, open-phaser-changes, admit-changes, leave-changes, arrive-changes, wait-changes, wait-at-changes, release-changes}
+use Rattle.hall.proofs.Changes.{Waited, blocks, releases, unopened-lowest, open-phaser-changes, admit-changes, leave-changes, arrive-changes, wait-changes, wait-at-changes}
 use Rattle.hall.proofs.Lists.{clash}
 use Rattle.hall.proofs.Maps.{phaser-there, phaser-opens, phaser-absent, member-there, member-is, member-absent, phasers-same, phasers-moved, phasers-opened, reached-await}
-use Rattle.hall.proofs.Rows.{is-running, OpenPhaser, Admit, Member, Arrive, WaitAt, Release}
 use Rattle.hall.proofs.Soundness.{sound-iff}
 
 -- what every call by a task asks
@@ -263,11 +262,11 @@ module _ (t : Table) (z : Shaped t) (a p : ℕ) where
 
     waited-passed : {c : Called} → Waited t z a p n c → (c .answer ≡ waitPassed) ↔ (reachedOf t (event p n) ≡ true)
     waited-passed (inl x) = (λ e. x .0, λ r. ap (λ (c : Called). c .answer) (x .1))
-    waited-passed (inr x) = (λ e. absurd (omega (arith, e, x .1 .answers)), λ r. absurd (clash r (x .0)))
+    waited-passed (inr x) = (λ e. absurd (omega (arith, e, ap (λ (c : Called). c .answer) (x .1))), λ r. absurd (clash r (x .0)))
 
     waited-blocked : {c : Called} → Waited t z a p n c → (c .answer ≡ nowBlocked) ↔ (reachedOf t (event p n) ≡ false)
     waited-blocked (inl x) = (λ e. absurd (omega (arith, e, ap (λ (c : Called). c .answer) (x .1))), λ r. absurd (clash (x .0) r))
-    waited-blocked (inr x) = (λ e. x .0, λ r. x .1 .answers)
+    waited-blocked (inr x) = (λ e. x .0, λ r. ap (λ (c : Called). c .answer) (x .1))
 
   -- 8: wait at a stated phase is [await-n], up to phase 65,535
   module _ (n : ℕ) where

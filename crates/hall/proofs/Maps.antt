@@ -1,15 +1,15 @@
 -- What a table stands for in figure 3's maps, and how writes move it.
-use mathlib.Core.Path.{_≡_, refl, ap, sym, _∙_, subst, fun-ext}
+use mathlib.Core.Path.{_≡_, refl, ap, _∙_, fun-ext}
 use mathlib.Core.Logic.{_↔_}
-use mathlib.Core.Bool.{Bool, true, false, _&&_, cond, and-true, and-false}
+use mathlib.Core.Bool.{Bool, true, false, cond, and-true, and-false}
 use mathlib.Core.Option.{Option, some, none, Option·some-injective, Option·none-ne-some, Option·some-ne-none}
-use Prim.Native.Nat.{ℕ, _+_, _<_, _≤_}
+use Prim.Native.Nat.{ℕ, _<_, _≤_}
 use native.Mathlib.Omega.{arith}
 use lib.Dec.{leb, eqb}
 use borrow.Author.Tests.{eqb-true, eqb-false, eq-eqb, leb-true, leb-false}
-use Rattle.hall.specs.Rules.{Map, put, Phaser, PhaserMap, Await, AwaitN, Upd, phaserOf, phasersOf}
-use Rattle.hall.specs.Table.{stateAt, openAt, memberAt, phaseAt, event}
-use Rattle.hall.specs.Waiting.{reachedOf, Impedes}
+use Rattle.hall.specs.Rules.{put, Phaser, PhaserMap, Await, phaserOf, phasersOf}
+use Rattle.hall.specs.Table.{openAt, memberAt, phaseAt, event}
+use Rattle.hall.specs.Waiting.{reachedOf}
 use Rattle.hall.specs.declared.table.State.{State}
 use Rattle.hall.specs.declared.table.Table.{Table}
 use Rattle.hall.proofs.Impeded.{impedes-iff, reached-iff}
