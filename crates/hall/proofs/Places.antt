@@ -1,16 +1,15 @@
 -- Where a table's arrays hold what it says: the place of an entry is task times sixteen plus phaser.
 use mathlib.Core.Path.{_≡_, refl, ap, sym, _∙_}
-use mathlib.Core.Bool.{Bool, true, false, _&&_, cond, and-false, true≢false}
+use mathlib.Core.Bool.{Bool, true, false, cond, and-false, true≢false}
 use Prim.Native.Nat.{ℕ, _+_, _*_, _/_, _%_, _<_, _≤_}
 use native.Mathlib.Nat.{div-add-mod'}
 use native.Mathlib.Omega.{arith}
 use lib.Dec.{ltb}
 use lib.ListN.{getD}
-use borrow.Author.Tests.{lt-ltb, le-ltb, ltb-true, ltb-false}
+use borrow.Author.Tests.{lt-ltb, le-ltb, ltb-true}
 use Rattle.hall.specs.Sound.{entrySound}
 use Rattle.hall.specs.Table.{freeTask, phase0, entry, stateAt, openAt, memberAt, phaseAt, isLive}
-use Rattle.hall.specs.declared.table.State.{State}
-use Rattle.hall.specs.declared.table.State.the-variants.{Free, Running, Blocked}
+use Rattle.hall.specs.declared.table.State.the-variants.{Free}
 use Rattle.hall.specs.declared.table.Table.{Table}
 use Rattle.hall.proofs.Every.{and-left}
 

@@ -1,18 +1,22 @@
 -- Laws of a list of tests and of the rows made of them.
-use mathlib.Core.Path.{_≡_, refl, ap, sym, _∙_}
+use mathlib.Core.Path.{_≡_, refl}
 use mathlib.Core.Bool.{Bool, true, false, _&&_, not, cond}
 use mathlib.Core.List.{List, [], _∷_, _++_}
-use Prim.Native.Nat.{ℕ}
+use Prim.Native.Nat.{ℕ, _<_, _≤_}
 use native.Mathlib.Omega.{arith}
 use lib.Dec.{leb, ltb, eqb}
-use borrow.Author.Tests.{leb-true, ne-eqb}
-use Rattle.hall.specs.Answers.{noTask, noPhaser, targetBlocked, notMember, alreadyMember, phaseTooLarge}
-use Rattle.hall.specs.Calls.{refused, ruled}
-use Rattle.hall.specs.Table.{largestPhase, stateAt, openAt, memberAt, phaseAt, isLive, isBlocked}
-use Rattle.hall.specs.Tests.{Test, _else_, refusalOf, running, endTaskTests, memberTests, admitTests, arriveTests, waitAtTests}
+use borrow.Author.Tests.{leb-true, ltb-true, ne-eqb}
+use Rattle.hall.specs.Answers.{waitPassed, nowBlocked, noTask, noPhaser, targetBlocked, notMember, alreadyMember, phaseTooLarge, noneFree}
+use Rattle.hall.specs.Calls.{called, refused, ruled, waits}
+use Rattle.hall.specs.Effects.{withState}
+use Rattle.hall.specs.Table.{event, largestPhase, stateAt, openAt, memberAt, phaseAt, isLive, isBlocked}
+use Rattle.hall.specs.Tests.{Test, _else_, refusalOf, lowestUnopened, running, endTaskTests, openPhaserTests, closePhaserTests, memberTests, admitTests, arriveTests, waitAtTests, releaseTests}
 use Rattle.hall.specs.declared.calls.Called.{Called}
+use Rattle.hall.specs.Waiting.{reachedOf}
+use Rattle.hall.specs.declared.table.State.the-variants.{Blocked}
 use Rattle.hall.specs.declared.table.Table.{Table}
 use Rattle.hall.proofs.Every.{and-left, and-right}
+use Rattle.hall.proofs.Places.{live-below, open-below}
 
 -- every refusal in a list is 10 or more, as all of document 01's are
 unfoldable pub refuses : List Test → Bool
@@ -78,6 +82,11 @@ module _ (t : Table) (a p : ℕ) where
       refusal-first (memberTests t a p)
       (isLive (stateAt t b) else noTask ∷ not (isBlocked (stateAt t b)) else targetBlocked ∷ not (memberAt t b p) else alreadyMember ∷ []) refl
 
+pub open-phaser-row : (t : Table) (a : ℕ) → refusalOf (openPhaserTests t a)
+    ≡ first (refusalOf (endTaskTests t a)) (cond (ltb (lowestUnopened t) 16) 0 noneFree)
+unfolding openPhaserTests endTaskTests running refuses refusalOf
+open-phaser-row t a = refusal-first (endTaskTests t a) (ltb (lowestUnopened t) 16 else noneFree ∷ []) refl
+
 -- ---- a call that is refused, and one that is not
 module _ (t : Table) (tests : List Test) (effect : Called) where
   pub ruled-refused : (n : ℕ) → n ≡ refusalOf tests → (n ≡ 0 → ⊥) → refused t n ≡ ruled t tests effect
@@ -87,3 +96,52 @@ module _ (t : Table) (tests : List Test) (effect : Called) where
   pub ruled-passed : refusalOf tests ≡ 0 → effect ≡ ruled t tests effect
   unfolding ruled
   ruled-passed e = simp e
+
+-- ---- a wait that passes, and one that blocks
+module _ (t : Table) (a p n : ℕ) where
+  pub waits-passed : reachedOf t (event p n) ≡ true → called waitPassed 0 t ≡ waits t a p n
+  unfolding waits
+  waits-passed e = simp e
+
+  pub waits-blocked : reachedOf t (event p n) ≡ false → called nowBlocked 0 (withState t a (Blocked (event p n))) ≡ waits t a p n
+  unfolding waits
+  waits-blocked e = simp e
+
+-- ---- the numbers of a call that is not refused are in range
+module _ (t : Table) (a : ℕ) where
+  pub running-below : refusalOf (endTaskTests t a) ≡ 0 → a < 32
+  unfolding endTaskTests running refuses Passed
+  running-below e = live-below t a (passed (endTaskTests t a) refl e .1 .0)
+
+  pub release-below : refusalOf (releaseTests t a) ≡ 0 → a < 32
+  unfolding releaseTests refuses Passed
+  release-below e = live-below t a (passed (releaseTests t a) refl e .1 .0)
+
+pub close-below : (t : Table) (p : ℕ) → refusalOf (closePhaserTests t p) ≡ 0 → p < 16
+unfolding closePhaserTests refuses Passed
+close-below t p e = open-below t p (passed (closePhaserTests t p) refl e .1 .0)
+
+module _ (t : Table) (a p : ℕ) where
+  pub member-below : refusalOf (memberTests t a p) ≡ 0 → (a < 32) × (p < 16)
+  unfolding memberTests running refuses Passed
+  member-below e =
+      let h = passed (memberTests t a p) refl e in
+      (live-below t a (h .1 .0), open-below t p (h .1 .1 .1 .0))
+
+  pub arrive-below : refusalOf (arriveTests t a p) ≡ 0 → ((a < 32) × (p < 16)) × (phaseAt t a p < largestPhase)
+  unfolding arriveTests memberTests running refuses Passed
+  arrive-below e =
+      let h = passed (arriveTests t a p) refl e in
+      ((live-below t a (h .1 .0), open-below t p (h .1 .1 .1 .0)), ltb-true (phaseAt t a p) largestPhase (h .1 .1 .1 .1 .1 .0))
+
+  pub wait-at-below : (n : ℕ) → refusalOf (waitAtTests t a p n) ≡ 0 → (a < 32) × (n ≤ largestPhase)
+  unfolding waitAtTests running refuses Passed
+  wait-at-below n e =
+      let h = passed (waitAtTests t a p n) refl e in
+      (live-below t a (h .1 .0), leb-true n largestPhase (h .1 .1 .1 .1 .0))
+
+  pub admit-below : (b : ℕ) → refusalOf (admitTests t a p b) ≡ 0 → (b < 32) × (p < 16)
+  unfolding admitTests running refuses Passed
+  admit-below b e =
+      let h = passed (admitTests t a p b) refl e in
+      (live-below t b (h .1 .1 .1 .1 .1 .0), open-below t p (h .1 .1 .1 .0))

@@ -188,15 +188,16 @@ impl Table {
             return NOT_SOUND;
         }
         let state = self.state_at(task);
-        if !state.is_live() {
-            return NO_TASK;
+        match state {
+            State::Free => NO_TASK,
+            State::Running => NOT_BLOCKED,
+            State::Blocked(event) => {
+                if self.reached(event) {
+                    DONE
+                } else {
+                    NOT_REACHED
+                }
+            }
         }
-        let State::Blocked(event) = state else {
-            return NOT_BLOCKED;
-        };
-        if !self.reached(event) {
-            return NOT_REACHED;
-        }
-        DONE
     }
 }

@@ -1,4 +1,3 @@
-use mathlib.Core.Path.{refl}
 use Rattle.hall.proofs.Places.{open-in, open-out}
 use borrow.Author.Needs.{needs}
 use Rattle.hall.proofs.sound.state_sound.Statement.{statement}

@@ -1,45 +1,43 @@
+use mathlib.Core.Path.{sym, _∙_, ap}
+use mathlib.Core.Bool.{true}
+use Prim.Native.Nat.{ℕ}
+use Rattle.hall.specs.Calls.{called, admitOf}
+use Rattle.hall.specs.Effects.{withEntry}
+use Rattle.hall.proofs.Refusals.{ruled-refused, ruled-passed, admit-below}
 use borrow.Author.Needs.{needs}
 use Rattle.hall.proofs.table.Table.admit.Statement.{statement}
 use Rattle.hall.proofs.table.Table.admit.Tie as tie
-use Rattle.hall.proofs.table.Table.admit.Reads as reads
-use Rattle.hall.proofs.table.Table.admit.Lts as lts
-use Rattle.hall.proofs.table.Table.admit_refusal.Reads as admit-refusal-reads
-use Rattle.hall.proofs.table.Table.called.Reads as called-reads
-use Rattle.hall.proofs.table.Table.phase_at.Reads as phase-at-reads
-use Rattle.hall.proofs.table.Table.refused.Reads as refused-reads
-use Rattle.hall.proofs.table.Table.with_entry.Reads as with-entry-reads
 
--- src/calls.rt:152:13
 admit-refusal-requires : tie.Need-admit-refusal-requires
 admit-refusal-requires c κs = search needs
 
--- src/calls.rt:154:13
 refused-requires : tie.Need-refused-requires
 refused-requires c κs = search needs
 
--- src/calls.rt:154:13
 returns : tie.Need-returns
-returns c = ?
+unfolding admitOf
+returns c = c .refused .ensures ∙ ruled-refused _ _ _ _ (c .before .before .admit-refusal .ensures) (c .before .if1 .taken)
 
--- src/calls.rt:156:13
 phase-at-requires : tie.Need-phase-at-requires
 phase-at-requires c κs = search needs
 
--- src/calls.rt:157:13
 with-entry-requires : tie.Need-with-entry-requires
-with-entry-requires c κs = ?
+with-entry-requires c κs = admit-below _ _ _ _ (sym (c .before .before .admit-refusal .ensures) ∙ c .before .if1 .left)
 
--- src/calls.rt:158:27
 cast-called : tie.Need-cast-called
 cast-called c = search needs
 
--- src/calls.rt:158:9
 called-requires : tie.Need-called-requires
 called-requires c κs = search needs
 
--- src/calls.rt:149:5
 returns-2 : tie.Need-returns-2
-returns-2 c = ?
+unfolding admitOf
+returns-2 c =
+    let s = c .before .before .before .before .before .before .args in
+    c .called .ensures
+    ∙ ap (called 0 _) (c .before .before .with-entry .ensures)
+    ∙ ap (λ (n : ℕ). called 0 n (withEntry (s .self) (s .target .0) (s .phaser .0) true n)) (c .before .before .before .phase-at .ensures)
+    ∙ ruled-passed _ _ _ (sym (c .before .before .before .before .before .admit-refusal .ensures) ∙ c .before .before .before .before .if1 .left)
 
 pub admit-spec : {M : Type 1} → statement M
 admit-spec =

@@ -1,49 +1,47 @@
+use mathlib.Core.Path.{sym, _∙_, ap}
+use mathlib.Core.Bool.{true}
+use Prim.Native.Nat.{ℕ, _+_}
+use native.Mathlib.Omega.{arith}
+use Rattle.hall.specs.Calls.{called, arriveOf}
+use Rattle.hall.specs.Effects.{withEntry}
+use Rattle.hall.proofs.Refusals.{ruled-refused, ruled-passed, arrive-below}
 use borrow.Author.Needs.{needs}
 use Rattle.hall.proofs.table.Table.arrive.Statement.{statement}
 use Rattle.hall.proofs.table.Table.arrive.Tie as tie
-use Rattle.hall.proofs.table.Table.arrive.Reads as reads
-use Rattle.hall.proofs.table.Table.arrive.Lts as lts
-use Rattle.hall.proofs.table.Table.arrive_refusal.Reads as arrive-refusal-reads
-use Rattle.hall.proofs.table.Table.called.Reads as called-reads
-use Rattle.hall.proofs.table.Table.phase_at.Reads as phase-at-reads
-use Rattle.hall.proofs.table.Table.refused.Reads as refused-reads
-use Rattle.hall.proofs.table.Table.with_entry.Reads as with-entry-reads
 
--- src/calls.rt:175:13
 arrive-refusal-requires : tie.Need-arrive-refusal-requires
 arrive-refusal-requires c κs = search needs
 
--- src/calls.rt:177:13
 refused-requires : tie.Need-refused-requires
 refused-requires c κs = search needs
 
--- src/calls.rt:177:13
 returns : tie.Need-returns
-returns c = ?
+unfolding arriveOf
+returns c = c .refused .ensures ∙ ruled-refused _ _ _ _ (c .before .before .arrive-refusal .ensures) (c .before .if1 .taken)
 
--- src/calls.rt:179:13
 phase-at-requires : tie.Need-phase-at-requires
 phase-at-requires c κs = search needs
 
--- src/calls.rt:180:23
 add-reached : tie.Need-add-reached
-add-reached c = ?
+add-reached c = omega (arith, arrive-below _ _ _ (sym (c .before .before .before .arrive-refusal .ensures) ∙ c .before .before .if1 .left), c .before .phase-at .ensures)
 
--- src/calls.rt:181:13
 with-entry-requires : tie.Need-with-entry-requires
-with-entry-requires c κs = ?
+with-entry-requires c κs = arrive-below _ _ _ (sym (c .before .before .before .arrive-refusal .ensures) ∙ c .before .before .if1 .left) .0
 
--- src/calls.rt:182:27
 cast-called : tie.Need-cast-called
 cast-called c = search needs
 
--- src/calls.rt:182:9
 called-requires : tie.Need-called-requires
 called-requires c κs = search needs
 
--- src/calls.rt:172:5
 returns-2 : tie.Need-returns-2
-returns-2 c = ?
+unfolding arriveOf
+returns-2 c =
+    let s = c .before .before .before .before .before .before .args in
+    c .called .ensures
+    ∙ ap (called 0 _) (c .before .with-entry .ensures)
+    ∙ ap (λ (n : ℕ). called 0 (n + 1) (withEntry (s .self) (s .task .0) (s .phaser .0) true (n + 1))) (c .before .before .before .phase-at .ensures)
+    ∙ ruled-passed _ _ _ (sym (c .before .before .before .before .before .arrive-refusal .ensures) ∙ c .before .before .before .before .if1 .left)
 
 pub arrive-spec : {M : Type 1} → statement M
 arrive-spec =

@@ -1,4 +1,3 @@
-use mathlib.Core.Path.{sym, _∙_}
 use borrow.Author.Tests.{lt-ltb, le-ltb, ne-eqb}
 use Rattle.hall.proofs.Refusals.{arrive-row}
 use borrow.Author.Needs.{needs}

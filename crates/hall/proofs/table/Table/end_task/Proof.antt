@@ -1,41 +1,38 @@
+use mathlib.Core.Path.{sym, _∙_, ap}
+use Rattle.hall.specs.Calls.{called, endTaskOf}
+use Rattle.hall.specs.Effects.{withState}
+use Rattle.hall.specs.declared.table.State.the-variants.{Free}
+use Rattle.hall.specs.declared.table.Table.{Table}
+use Rattle.hall.proofs.Refusals.{ruled-refused, ruled-passed, running-below}
 use borrow.Author.Needs.{needs}
 use Rattle.hall.proofs.table.Table.end_task.Statement.{statement}
 use Rattle.hall.proofs.table.Table.end_task.Tie as tie
-use Rattle.hall.proofs.table.Table.end_task.Reads as reads
-use Rattle.hall.proofs.table.Table.end_task.Lts as lts
-use Rattle.hall.proofs.table.Table.called.Reads as called-reads
-use Rattle.hall.proofs.table.Table.refused.Reads as refused-reads
-use Rattle.hall.proofs.table.Table.running_refusal.Reads as running-refusal-reads
-use Rattle.hall.proofs.table.Table.with_state.Reads as with-state-reads
-use Rattle.hall.proofs.table.Table.without_entries.Reads as without-entries-reads
 
--- src/calls.rt:112:13
 running-refusal-requires : tie.Need-running-refusal-requires
 running-refusal-requires c κs = search needs
 
--- src/calls.rt:114:13
 refused-requires : tie.Need-refused-requires
 refused-requires c κs = search needs
 
--- src/calls.rt:114:13
 returns : tie.Need-returns
-returns c = ?
+unfolding endTaskOf
+returns c = c .refused .ensures ∙ ruled-refused _ _ _ _ (c .before .before .running-refusal .ensures) (c .before .if1 .taken)
 
--- src/calls.rt:116:13
 without-entries-requires : tie.Need-without-entries-requires
-without-entries-requires c κs = ?
+without-entries-requires c κs = running-below _ _ (sym (c .before .running-refusal .ensures) ∙ c .if1 .left)
 
--- src/calls.rt:117:13
 with-state-requires : tie.Need-with-state-requires
-with-state-requires c κs = ?
+with-state-requires c κs = running-below _ _ (sym (c .before .before .running-refusal .ensures) ∙ c .before .if1 .left)
 
--- src/calls.rt:118:9
 called-requires : tie.Need-called-requires
 called-requires c κs = search needs
 
--- src/calls.rt:109:5
 returns-2 : tie.Need-returns-2
-returns-2 c = ?
+unfolding endTaskOf
+returns-2 c =
+    c .called .ensures
+    ∙ ap (called 0 0) (c .before .with-state .ensures ∙ ap (λ (x : Table). withState x (c .before .before .before .before .before .args .task .0) Free) (c .before .before .without-entries .ensures))
+    ∙ ruled-passed _ _ _ (sym (c .before .before .before .before .running-refusal .ensures) ∙ c .before .before .before .if1 .left)
 
 pub end-task-spec : {M : Type 1} → statement M
 end-task-spec =

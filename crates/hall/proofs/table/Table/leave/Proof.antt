@@ -1,36 +1,30 @@
+use mathlib.Core.Path.{sym, _∙_, ap}
+use Rattle.hall.specs.Calls.{called, leaveOf}
+use Rattle.hall.proofs.Refusals.{ruled-refused, ruled-passed, member-below}
 use borrow.Author.Needs.{needs}
 use Rattle.hall.proofs.table.Table.leave.Statement.{statement}
 use Rattle.hall.proofs.table.Table.leave.Tie as tie
-use Rattle.hall.proofs.table.Table.leave.Reads as reads
-use Rattle.hall.proofs.table.Table.leave.Lts as lts
-use Rattle.hall.proofs.table.Table.called.Reads as called-reads
-use Rattle.hall.proofs.table.Table.member_refusal.Reads as member-refusal-reads
-use Rattle.hall.proofs.table.Table.refused.Reads as refused-reads
-use Rattle.hall.proofs.table.Table.with_entry.Reads as with-entry-reads
 
--- src/calls.rt:164:13
 member-refusal-requires : tie.Need-member-refusal-requires
 member-refusal-requires c κs = search needs
 
--- src/calls.rt:166:13
 refused-requires : tie.Need-refused-requires
 refused-requires c κs = search needs
 
--- src/calls.rt:166:13
 returns : tie.Need-returns
-returns c = ?
+unfolding leaveOf
+returns c = c .refused .ensures ∙ ruled-refused _ _ _ _ (c .before .before .member-refusal .ensures) (c .before .if1 .taken)
 
--- src/calls.rt:168:13
 with-entry-requires : tie.Need-with-entry-requires
-with-entry-requires c κs = ?
+with-entry-requires c κs = member-below _ _ _ (sym (c .before .member-refusal .ensures) ∙ c .if1 .left)
 
--- src/calls.rt:169:9
 called-requires : tie.Need-called-requires
 called-requires c κs = search needs
 
--- src/calls.rt:161:5
 returns-2 : tie.Need-returns-2
-returns-2 c = ?
+unfolding leaveOf
+returns-2 c =
+    c .called .ensures ∙ ap (called 0 0) (c .before .with-entry .ensures) ∙ ruled-passed _ _ _ (sym (c .before .before .before .member-refusal .ensures) ∙ c .before .before .if1 .left)
 
 pub leave-spec : {M : Type 1} → statement M
 leave-spec =

@@ -1,6 +1,5 @@
 -- No number below k is free: the search goes on from k.
 use mathlib.Core.Path.{_≡_, sym, _∙_, ap, refl}
-use mathlib.Core.Bool.{true, false}
 use Prim.Native.Nat.{_≤_, _-_}
 use native.Mathlib.Omega.{arith}
 use Rattle.hall.specs.Every.{lowestFrom}

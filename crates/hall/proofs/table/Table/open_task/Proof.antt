@@ -1,49 +1,40 @@
+use mathlib.Core.Path.{sym, _∙_}
+use borrow.Author.Tests.{not-true, not-false, lt-ltb, le-ltb}
+use Rattle.hall.specs.Calls.{ruled, openTaskOf}
+use Rattle.hall.specs.Tests.{refusalOf, openTaskTests}
 use borrow.Author.Needs.{needs}
 use Rattle.hall.proofs.table.Table.open_task.Statement.{statement}
 use Rattle.hall.proofs.table.Table.open_task.Tie as tie
-use Rattle.hall.proofs.table.Table.open_task.Reads as reads
-use Rattle.hall.proofs.table.Table.open_task.Lts as lts
-use Rattle.hall.proofs.table.Table.called.Reads as called-reads
-use Rattle.hall.proofs.table.Table.is_sound.Reads as is-sound-reads
-use Rattle.hall.proofs.table.Table.lowest_free.Reads as lowest-free-reads
-use Rattle.hall.proofs.table.Table.refused.Reads as refused-reads
-use Rattle.hall.proofs.table.Table.with_state.Reads as with-state-reads
 
--- src/calls.rt:97:13
 is-sound-requires : tie.Need-is-sound-requires
 is-sound-requires c κs = search needs
 
--- src/calls.rt:98:13
 refused-requires : tie.Need-refused-requires
 refused-requires c κs = search needs
 
--- src/calls.rt:98:13
 returns : tie.Need-returns
-returns c = ?
+unfolding openTaskOf ruled refusalOf openTaskTests
+returns c = simp (sym (c .before .before .is-sound .ensures) ∙ not-true _ (c .before .if1 .taken), c .refused .ensures)
 
--- src/calls.rt:100:13
 lowest-free-requires : tie.Need-lowest-free-requires
 lowest-free-requires c κs = search needs
 
--- src/calls.rt:103:13
 refused-requires-2 : tie.Need-refused-requires-2
 refused-requires-2 c κs = search needs
 
--- src/calls.rt:103:13
 returns-2 : tie.Need-returns-2
-returns-2 c = ?
+unfolding openTaskOf ruled refusalOf openTaskTests
+returns-2 c = simp (sym (c .before .before .before .before .is-sound .ensures) ∙ not-false _ (c .before .before .before .if1 .left), ← (c .before .before .lowest-free .ensures), le-ltb _ _ (c .before .if2 .taken), c .refused2 .ensures)
 
--- src/calls.rt:105:13
 with-state-requires : tie.Need-with-state-requires
 with-state-requires c κs = search needs
 
--- src/calls.rt:106:9
 called-requires : tie.Need-called-requires
 called-requires c κs = search needs
 
--- src/calls.rt:94:5
 returns-3 : tie.Need-returns-3
-returns-3 c = ?
+unfolding openTaskOf ruled refusalOf openTaskTests
+returns-3 c = simp (sym (c .before .before .before .before .before .is-sound .ensures) ∙ not-false _ (c .before .before .before .before .if1 .left), ← (c .before .before .before .lowest-free .ensures), lt-ltb _ _ (c .before .before .if2 .left), c .called .ensures, c .before .with-state .ensures)
 
 pub open-task-spec : {M : Type 1} → statement M
 open-task-spec =

@@ -1,36 +1,30 @@
+use mathlib.Core.Path.{sym, _∙_, ap}
+use Rattle.hall.specs.Calls.{called, releaseOf}
+use Rattle.hall.proofs.Refusals.{ruled-refused, ruled-passed, release-below}
 use borrow.Author.Needs.{needs}
 use Rattle.hall.proofs.table.Table.release.Statement.{statement}
 use Rattle.hall.proofs.table.Table.release.Tie as tie
-use Rattle.hall.proofs.table.Table.release.Reads as reads
-use Rattle.hall.proofs.table.Table.release.Lts as lts
-use Rattle.hall.proofs.table.Table.called.Reads as called-reads
-use Rattle.hall.proofs.table.Table.refused.Reads as refused-reads
-use Rattle.hall.proofs.table.Table.release_refusal.Reads as release-refusal-reads
-use Rattle.hall.proofs.table.Table.with_state.Reads as with-state-reads
 
--- src/calls.rt:222:13
 release-refusal-requires : tie.Need-release-refusal-requires
 release-refusal-requires c κs = search needs
 
--- src/calls.rt:224:13
 refused-requires : tie.Need-refused-requires
 refused-requires c κs = search needs
 
--- src/calls.rt:224:13
 returns : tie.Need-returns
-returns c = ?
+unfolding releaseOf
+returns c = c .refused .ensures ∙ ruled-refused _ _ _ _ (c .before .before .release-refusal .ensures) (c .before .if1 .taken)
 
--- src/calls.rt:226:13
 with-state-requires : tie.Need-with-state-requires
-with-state-requires c κs = ?
+with-state-requires c κs = release-below _ _ (sym (c .before .release-refusal .ensures) ∙ c .if1 .left)
 
--- src/calls.rt:227:9
 called-requires : tie.Need-called-requires
 called-requires c κs = search needs
 
--- src/calls.rt:219:5
 returns-2 : tie.Need-returns-2
-returns-2 c = ?
+unfolding releaseOf
+returns-2 c =
+    c .called .ensures ∙ ap (called 0 0) (c .before .with-state .ensures) ∙ ruled-passed _ _ _ (sym (c .before .before .before .release-refusal .ensures) ∙ c .before .before .if1 .left)
 
 pub release-spec : {M : Type 1} → statement M
 release-spec =

@@ -1,6 +1,6 @@
 -- Every state below k is sound.
 use mathlib.Core.Path.{_≡_, sym, _∙_, ap, refl}
-use mathlib.Core.Bool.{Bool, true, false}
+use mathlib.Core.Bool.{Bool, true}
 use Prim.Native.Nat.{ℕ, _≤_, _-_}
 use native.Mathlib.Omega.{arith}
 use borrow.Author.Tests.{not-true, not-false}

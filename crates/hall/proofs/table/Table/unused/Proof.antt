@@ -1,7 +1,7 @@
 -- No task below k is a member of the phaser or waits at it.
 use mathlib.Core.Path.{_≡_, sym, _∙_, ap, ap₂}
-use mathlib.Core.Bool.{Bool, true, false, _&&_, not}
-use Prim.Native.Nat.{ℕ, _≤_, _-_}
+use mathlib.Core.Bool.{Bool, true, _&&_, not}
+use Prim.Native.Nat.{_≤_, _-_}
 use native.Mathlib.Omega.{arith}
 use Rattle.hall.specs.Every.{every}
 use Rattle.hall.specs.Table.{stateAt, memberAt}

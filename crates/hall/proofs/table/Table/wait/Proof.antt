@@ -1,36 +1,33 @@
+use mathlib.Core.Path.{sym, _∙_, ap}
+use Rattle.hall.specs.Calls.{waits, waitOf}
+use Rattle.hall.proofs.Refusals.{ruled-refused, ruled-passed, member-below}
 use borrow.Author.Needs.{needs}
 use Rattle.hall.proofs.table.Table.wait.Statement.{statement}
 use Rattle.hall.proofs.table.Table.wait.Tie as tie
-use Rattle.hall.proofs.table.Table.wait.Reads as reads
-use Rattle.hall.proofs.table.Table.wait.Lts as lts
-use Rattle.hall.proofs.table.Table.member_refusal.Reads as member-refusal-reads
-use Rattle.hall.proofs.table.Table.phase_at.Reads as phase-at-reads
-use Rattle.hall.proofs.table.Table.refused.Reads as refused-reads
-use Rattle.hall.proofs.table.Table.waits.Reads as waits-reads
 
--- src/calls.rt:201:13
 member-refusal-requires : tie.Need-member-refusal-requires
 member-refusal-requires c κs = search needs
 
--- src/calls.rt:203:13
 refused-requires : tie.Need-refused-requires
 refused-requires c κs = search needs
 
--- src/calls.rt:203:13
 returns : tie.Need-returns
-returns c = ?
+unfolding waitOf
+returns c = c .refused .ensures ∙ ruled-refused _ _ _ _ (c .before .before .member-refusal .ensures) (c .before .if1 .taken)
 
--- src/calls.rt:205:13
 phase-at-requires : tie.Need-phase-at-requires
 phase-at-requires c κs = search needs
 
--- src/calls.rt:206:9
 waits-requires : tie.Need-waits-requires
-waits-requires c κs = ?
+waits-requires c κs = member-below _ _ _ (sym (c .before .before .member-refusal .ensures) ∙ c .before .if1 .left) .0
 
--- src/calls.rt:198:5
 returns-2 : tie.Need-returns-2
-returns-2 c = ?
+unfolding waitOf
+returns-2 c =
+    let s = c .before .before .before .before .args in
+    c .waits .ensures
+    ∙ ap (waits (s .self) (s .task .0) (s .phaser .0)) (c .before .phase-at .ensures)
+    ∙ ruled-passed _ _ _ (sym (c .before .before .before .member-refusal .ensures) ∙ c .before .before .if1 .left)
 
 pub wait-spec : {M : Type 1} → statement M
 wait-spec =
