@@ -127,8 +127,11 @@ tasksAt s h at = each (taskStep s (h .opened)) (h .count) (noTasks (h .opened)) 
 abbrev pub ended : List ℕ → Table → ℕ → Got Table
 ended s t at = cond (ltb at (length s)) (refused bytesAfter) (value t at)
 
+unfoldable pub entriesAt : List ℕ → Head → ℕ → Got Table
+entriesAt s h at = onward (tasksAt s h at) (ended s)
+
 unfoldable pub tableAt : List ℕ → Got Table
-tableAt s = onward (headAt s) (λ h first. onward (tasksAt s h first) (ended s))
+tableAt s = onward (headAt s) (entriesAt s)
 
 -- what the reader hands back: "A sheet reader that refuses hands back a fresh table"
 abbrev pub refusedBy : ℕ → Sheet

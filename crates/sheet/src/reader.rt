@@ -3,7 +3,7 @@ ghost use mathlib.Core.Path.{_≡_};
 ghost use lib.ListN.{replicate};
 ghost use mathlib.Core.Bool.{false};
 ghost use Rattle.sheet.specs.Got.{placed, placeAfter, refusalOf};
-ghost use Rattle.sheet.specs.Fields.{each, openStep, opensAt, countAt, listsAt, headAt, phaseOn, eventAt, blockedAt, stateOn, memberStep, noRow, rowAt, entryOn, entryAt, tasksAt, sheetAt, refusedBy};
+ghost use Rattle.sheet.specs.Fields.{each, openStep, opensAt, countAt, listsAt, headAt, phaseOn, eventAt, blockedAt, stateOn, memberStep, noRow, rowAt, entryOn, entryAt, entriesAt, handed, sheetAt, refusedBy};
 use crate::answers::BYTES_AFTER;
 use crate::answers::NOT_OPEN;
 use crate::answers::UNKNOWN;
@@ -361,14 +361,28 @@ fn entry_at(sheet: &[u8], opened: &[bool; 16], floor: u64, at: usize) -> ReadEnt
     entry_in(sheet, opened, TaskNo(k), next)
 }
 
-// The table of the entries.
-pub struct ReadTable {
-    pub place: Place,
+// What the reader hands back: 0 and the table, or the refusal and a fresh table.
+pub struct Sheet {
+    pub answer: u32,
     pub table: Table,
 }
 
-fn entries(sheet: &[u8], head: Head, first: usize) -> ReadTable
-    ensures { λ r. ⌜ placed (r .place) (r .table) ≡ tasksAt (now (sheet .entry)) head first ⌝ }
+fn refused(answer: u32) -> Sheet
+    ensures { λ r. ⌜ r ≡ refusedBy answer ⌝ }
+{
+    let free = Task { state: State::Free };
+    let table = Table {
+        tasks: [free; 32],
+        opened: [false; 16],
+        phases: [Phase(0); 512],
+        members: [false; 512],
+    };
+    Sheet { answer, table }
+}
+
+// The tasks, and the end.
+fn entries(sheet: &[u8], head: Head, first: usize) -> Sheet
+    ensures { λ r. ⌜ r ≡ handed (entriesAt (now (sheet .entry)) head first) ⌝ }
 {
     let opened = head.opened;
     let free = Task { state: State::Free };
@@ -385,7 +399,7 @@ fn entries(sheet: &[u8], head: Head, first: usize) -> ReadTable
         let read = entry_at(sheet, &opened, floor, at);
         let place = read.place;
         let Place::At(next) = place else {
-            return ReadTable { place, table };
+            return refused(refusal(place));
         };
         let entry = read.entry;
         let number = entry.number.0;
@@ -406,51 +420,21 @@ fn entries(sheet: &[u8], head: Head, first: usize) -> ReadTable
         at = next;
         left = left - 1;
     }
-    ReadTable {
-        place: Place::At(at),
-        table,
+    if at < sheet.len() {
+        return refused(BYTES_AFTER);
     }
-}
-
-// What the reader hands back: 0 and the table, or the refusal and a fresh table.
-pub struct Sheet {
-    pub answer: u32,
-    pub table: Table,
-}
-
-fn refused(answer: u32) -> Sheet
-    ensures { λ r. ⌜ r ≡ refusedBy answer ⌝ }
-{
-    let free = Task { state: State::Free };
-    let table = Table {
-        tasks: [free; 32],
-        opened: [false; 16],
-        phases: [Phase(0); 512],
-        members: [false; 512],
-    };
-    Sheet { answer, table }
+    Sheet { answer: 0, table }
 }
 
 // The table of a sheet.
 pub fn read(sheet: &[u8]) -> Sheet
     ensures { λ r. ⌜ r ≡ sheetAt (now (sheet .entry)) ⌝ }
 {
-    let before = head_at(sheet);
-    let place = before.place;
+    let read = head_at(sheet);
+    let place = read.place;
     let Place::At(first) = place else {
         return refused(refusal(place));
     };
-    let head = before.head;
-    let read = entries(sheet, head, first);
-    let end = read.place;
-    match end {
-        Place::Refused(n) => refused(n),
-        Place::At(at) => {
-            if at < sheet.len() {
-                return refused(BYTES_AFTER);
-            }
-            let table = read.table;
-            Sheet { answer: 0, table }
-        }
-    }
+    let head = read.head;
+    entries(sheet, head, first)
 }

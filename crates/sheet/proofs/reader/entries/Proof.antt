@@ -2,9 +2,10 @@ use borrow.Author.Needs.{needs}
 use native.Mathlib.Omega.{arith}
 use mathlib.Core.Path.{_≡_, refl, sym, ap, _∙_}
 use Prim.Native.Nat.{_-_, _≤_}
-use Rattle.sheet.specs.Got.{placed}
-use Rattle.sheet.specs.Fields.{rising, each, taskStep, tasksAt, withRow, withTask}
-use Rattle.sheet.proofs.Onward.{going, going-turn, going-refused, going-end}
+use borrow.Author.Tests.{lt-ltb, le-ltb}
+use Rattle.sheet.specs.Got.{onward, placed, refusalOf}
+use Rattle.sheet.specs.Fields.{rising, each, taskStep, tasksAt, entriesAt, ended, handed, refusedBy, withRow}
+use Rattle.sheet.proofs.Onward.{going, going-refused, going-end}
 use Rattle.sheet.proofs.Bounds.{entry-bound}
 use Rattle.sheet.proofs.Steps.{task-turn, task-refused, row-none, row-more}
 use Rattle.sheet.proofs.reader.entries.Statement.{statement}
@@ -35,9 +36,17 @@ enum-known-place c = search needs
 enum-told : tie.Need-enum-told Inv-loop2 μ-loop2 Inv-loop μ-loop
 enum-told c = search needs
 
+refusal-requires : tie.Need-refusal-requires Inv-loop2 μ-loop2 Inv-loop μ-loop
+refusal-requires c κs = search needs
+
+refused-requires : tie.Need-refused-requires Inv-loop2 μ-loop2 Inv-loop μ-loop
+refused-requires c κs = search needs
+
 returns : tie.Need-returns Inv-loop2 μ-loop2 Inv-loop μ-loop
-unfolding tasksAt each going
-returns c = rw (c .enum-told .given .1) (going-refused (taskStep _ _) (c .before .before .before .before .before .loop .floor) (c .before .before .before .before .before .loop .table) (c .before .before .before .before .before .loop .at) (c .before .before .before .before .before .loop .left) (c .before .before .before .before .loop-test .taken) (task-refused _ _ (rising (c .before .before .before .before .before .loop .floor) (c .before .before .before .before .before .loop .table)) _ (sym (c .before .before .entry-at .ensures) ∙ ap (λ p. placed p (c .before .before .entry-at .result .entry)) (c .enum-told .given .1))) ∙ c .before .before .before .before .before .loop .inv)
+unfolding entriesAt tasksAt each going
+returns c =
+    c .refused .ensures ∙ ap refusedBy (c .before .refusal .ensures ∙ ap refusalOf (c .before .before .enum-told .given .1))
+    ∙ ap (λ g. handed (onward g (ended (c .before .before .before .before .before .before .before .before .before .before .args .sheet .now)))) (going-refused (taskStep _ _) (c .before .before .before .before .before .before .before .loop .floor) (c .before .before .before .before .before .before .before .loop .table) (c .before .before .before .before .before .before .before .loop .at) (c .before .before .before .before .before .before .before .loop .left) (c .before .before .before .before .before .before .loop-test .taken) (task-refused _ _ (rising (c .before .before .before .before .before .before .before .loop .floor) (c .before .before .before .before .before .before .before .loop .table)) _ (sym (c .before .before .before .before .entry-at .ensures) ∙ ap (λ p. placed p (c .before .before .before .before .entry-at .result .entry)) (c .before .before .enum-told .given .1))) ∙ c .before .before .before .before .before .before .before .loop .inv)
 
 mul-t32 : tie.Need-mul-t32 Inv-loop2 μ-loop2 Inv-loop μ-loop
 mul-t32 c = record { fits = omega (arith, entry-bound _ _ _ _ (sym (c .before .before .before .before .entry-at .ensures) ∙ ap (λ p. placed p (c .before .before .before .before .entry-at .result .entry)) (c .before .before .place .given .1))) }
@@ -95,9 +104,16 @@ loop-again c =
     let h : c .before .loop2 .p ≡ 16 = omega arith in
     task-turn _ _ (rising (c .before .before .before .before .before .before .before .before .before .before .loop .floor) (c .before .before .before .before .before .before .before .before .before .before .loop .table)) _ (c .before .before .before .before .before .before .before .before .before .before .loop .left) (c .before .before .before .before .before .before .before .entry-at .result .entry) _ (c .before .before .before .before .before .before .before .before .before .loop-test .taken) (sym (c .before .before .before .before .before .before .before .entry-at .ensures) ∙ ap (λ p. placed p (c .before .before .before .before .before .before .before .entry-at .result .entry)) (c .before .before .before .before .before .place .given .1)) (rw h at (c .before .loop2 .inv .1)) ∙ c .before .before .before .before .before .before .before .before .before .before .loop .inv
 
+refused-requires-2 : tie.Need-refused-requires-2 Inv-loop2 μ-loop2 Inv-loop μ-loop
+refused-requires-2 c κs = search needs
+
 returns-2 : tie.Need-returns-2 Inv-loop2 μ-loop2 Inv-loop μ-loop
-unfolding tasksAt each going
-returns-2 c = going-end (taskStep _ _) (c .before .loop .floor) (c .before .loop .table) (c .before .loop .at) (c .before .loop .left) (omega (arith, c .loop-test .left)) ∙ c .before .loop .inv
+unfolding entriesAt tasksAt each going
+returns-2 c = rw (← going-end (taskStep _ _) (c .before .before .before .loop .floor) (c .before .before .before .loop .table) (c .before .before .before .loop .at) (c .before .before .before .loop .left) (omega (arith, c .before .before .loop-test .left)) ∙ c .before .before .before .loop .inv, lt-ltb _ _ (c .before .if1 .taken)) (c .refused2 .ensures)
+
+returns-3 : tie.Need-returns-3 Inv-loop2 μ-loop2 Inv-loop μ-loop
+unfolding entriesAt tasksAt each going
+returns-3 c = rw (← going-end (taskStep _ _) (c .before .before .loop .floor) (c .before .before .loop .table) (c .before .before .loop .at) (c .before .before .loop .left) (omega (arith, c .before .loop-test .left)) ∙ c .before .before .loop .inv, le-ltb _ _ (c .if1 .left))
 
 pub entries-spec : {M : Type 1} → statement M
 entries-spec =
@@ -111,6 +127,8 @@ entries-spec =
     entry-at-requires
     enum-known-place
     enum-told
+    refusal-requires
+    refused-requires
     returns
     mul-t32
     element-set-from-table
@@ -130,4 +148,6 @@ entries-spec =
     sub-left
     loop-less
     loop-again
-    returns-2)
+    refused-requires-2
+    returns-2
+    returns-3)

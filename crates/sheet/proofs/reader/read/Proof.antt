@@ -1,8 +1,7 @@
 use borrow.Author.Needs.{needs}
-use borrow.Author.Tests.{lt-ltb, le-ltb}
 use mathlib.Core.Path.{sym, ap, _∙_}
 use Rattle.sheet.specs.Got.{refusalOf}
-use Rattle.sheet.specs.Fields.{sheetAt, tableAt, handed, refusedBy}
+use Rattle.sheet.specs.Fields.{sheetAt, tableAt, refusedBy}
 use Rattle.sheet.proofs.reader.read.Statement.{statement}
 use Rattle.sheet.proofs.reader.read.Tie as tie
 
@@ -28,29 +27,9 @@ returns c = rw (← c .before .before .before .before .head-at .ensures, c .befo
 entries-requires : tie.Need-entries-requires
 entries-requires c κs = search needs
 
-enum-known-end : tie.Need-enum-known-end
-enum-known-end c = search needs
-
-refused-requires-2 : tie.Need-refused-requires-2
-refused-requires-2 c κs = search needs
-
-enum-known-end-2 : tie.Need-enum-known-end-2
-enum-known-end-2 c = search needs
-
-refused-requires-3 : tie.Need-refused-requires-3
-refused-requires-3 c κs = search needs
-
 returns-2 : tie.Need-returns-2
 unfolding sheetAt tableAt
-returns-2 c = rw (← c .before .before .before .before .before .before .before .before .before .before .head-at .ensures, c .before .before .before .before .before .before .before .before .place .given .1, ← c .before .before .before .before .before .entries .ensures, c .before .before .before .end2 .given .1, lt-ltb _ _ (c .before .if1 .taken)) (c .refused3 .ensures)
-
-returns-3 : tie.Need-returns-3
-unfolding sheetAt tableAt
-returns-3 c = rw (← c .before .before .before .before .before .before .before .before .before .head-at .ensures, c .before .before .before .before .before .before .before .place .given .1, ← c .before .before .before .before .entries .ensures, c .before .before .end .given .1) (c .refused2 .ensures)
-
-returns-4 : tie.Need-returns-4
-unfolding sheetAt tableAt
-returns-4 c = rw (← c .before .before .before .before .before .before .before .before .before .before .head-at .ensures, c .before .before .before .before .before .before .before .before .place .given .1, ← c .before .before .before .before .before .entries .ensures, c .before .before .before .end2 .given .1, le-ltb _ _ (c .before .if1 .left))
+returns-2 c = rw (← c .before .before .before .before .before .head-at .ensures, c .before .before .before .place .given .1) (c .entries .ensures)
 
 pub read-spec : {M : Type 1} → statement M
 read-spec =
@@ -63,10 +42,4 @@ read-spec =
     refused-requires
     returns
     entries-requires
-    enum-known-end
-    refused-requires-2
-    enum-known-end-2
-    refused-requires-3
-    returns-2
-    returns-3
-    returns-4)
+    returns-2)
