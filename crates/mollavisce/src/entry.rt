@@ -1,11 +1,10 @@
 // The verdict of a sheet, and the entry for a C++ host.
+use judge::judge::NO_ROUTE;
 use judge::judge::judge;
 use judge::verdict::Verdict;
 use sheet::reader::read;
 ghost use Rattle.mollavisce.specs.Entry.{SheetJudged, Entered};
 
-// Route not 0 or 1.
-pub const NO_ROUTE: u32 = 41;
 // Answer strip under 38 bytes.
 pub const SHORT_STRIP: u32 = 40;
 
