@@ -29,7 +29,7 @@ struct Call { // the one under way, for the report of a fault
     std::size_t strip_length;
 } present;
 
-unsigned long calls = 0, wrong = 0;
+unsigned long calls = 0, differences = 0;
 
 std::string hex(const std::uint8_t *bytes, std::size_t length) {
     static const char digits[] = "0123456789abcdef";
@@ -60,7 +60,7 @@ void fault(int) {
 }
 
 void ask(bool holds, const char *what) {
-    if (!holds && ++wrong <= 20)
+    if (!holds && ++differences <= 20)
         report(what);
 }
 
@@ -353,9 +353,9 @@ void longest() {
     both(sheet);
     for (std::size_t at = 0; at < sheet.size(); ++at) {
         hold({sheet.begin(), sheet.begin() + static_cast<long>(at)}, at % 2);
-        for (std::uint8_t value : {0, 1, 127, 128, 255}) {
+        for (unsigned value : {0, 1, 127, 128, 255}) {
             Bytes damaged = sheet;
-            damaged[at] = value;
+            damaged[at] = static_cast<std::uint8_t>(value);
             hold(damaged, at % 2);
         }
     }
@@ -416,6 +416,6 @@ int main(int count, char **words) {
     tell("the longest sheet, cut and damaged at each byte, and longer inputs", longest);
     if (count == 2 && std::strcmp(words[1], "-") == 0)
         tell("sheets and verdicts from standard input", [] { vectors(std::cin); });
-    std::printf("%9lu calls, %lu wrong\n", calls, wrong);
-    return wrong == 0 ? 0 : 1;
+    std::printf("%9lu calls, %lu differences\n", calls, differences);
+    return differences == 0 ? 0 : 1;
 }

@@ -479,6 +479,17 @@ def random_table(rand, tasks=TASKS):
     return t
 
 
+def stepping_table(rand):
+    """All 32 tasks blocked, each impeded first by a task drawn at random: on phaser p task 2p is at phase 1, task 2p + 1 at 0."""
+    t = Table()
+    t.opened = [True] * PHASERS
+    for k in range(TASKS):
+        u = rand.randrange(TASKS)
+        t.state[k] = (u // 2, 2 - u % 2)
+        t.member[k][k // 2], t.phase[k][k // 2] = True, 1 - k % 2
+    return t
+
+
 def damaged(rand, data):
     at, odd = rand.randrange(len(data)), rand.choice([0, 1, 2, 15, 16, 31, 32, 127, 128, 255, rand.randrange(256)])
     return rand.choice(
@@ -496,7 +507,8 @@ def damaged(rand, data):
 def vectors(seed, count):
     rand = random.Random(seed)
     for _ in range(count):
-        data = damaged(rand, sheet_of(random_table(rand)))
+        data = sheet_of(stepping_table(rand) if rand.random() < 0.1 else random_table(rand))
+        data = data if rand.random() < 0.3 else damaged(rand, data)
         answer, strip = sheet_verdict(data, rand.randrange(2))
         yield data.hex() or "-", answer, strip.hex()
 
