@@ -2,3 +2,8 @@ mod Groups
 mod Onward
 mod Bounds
 mod Steps
+mod Same
+mod Numbers
+mod Tables
+mod Gather
+mod Accepted
