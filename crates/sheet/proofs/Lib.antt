@@ -7,3 +7,4 @@ mod Numbers
 mod Tables
 mod Gather
 mod Accepted
+mod Written
