@@ -2,9 +2,12 @@ mod Groups
 mod Onward
 mod Bounds
 mod Steps
-mod Same
-mod Numbers
+pub mod Same
+pub mod Numbers
 mod Tables
 mod Gather
-mod Accepted
-mod Written
+pub mod Accepted
+pub mod Written
+pub mod Settled
+pub mod Theorems
+pub mod Examples
