@@ -1,11 +1,18 @@
 -- Document 01, 'The hall sheet': "A number is groups of seven bits, low group first; the top bit of a byte says that another group follows."
-use mathlib.Core.Bool.{Bool, cond}
+use mathlib.Core.Bool.{cond}
 use mathlib.Core.List.{List, [], _∷_}
 use Prim.Native.Nat.{ℕ, zero, suc, _+_, _-_, _*_, _/_, _%_}
 use lib.Dec.{ltb, leb, eqb}
 use lib.ListN.{length, getD}
 use Rattle.sheet.specs.Answers.{endsInside, needlessGroup, tooLarge, notRising}
+use Rattle.sheet.specs.declared.number.Number.{Number}
+use Rattle.sheet.specs.declared.number.Number.the-variants.{Value, Refused}
 use Rattle.sheet.specs.Got.{Got, value, refused, onward}
+
+-- "Reading a number answers either its value and the next place, or its refusal": the two cases of the code's enum
+abbrev pub outcome : Number → Got ℕ
+outcome (Value v next) = value v next
+outcome (Refused n) = refused n
 
 -- "At most three groups": so many may follow the first
 abbrev pub further : ℕ
@@ -13,8 +20,7 @@ further = 2
 
 -- a group, and the number of those that follow it: "31 if there is more than one group and the last is 0", for then that number is 0
 abbrev pub carried : ℕ → Got ℕ → Got ℕ
-carried low (value high next) = cond (eqb high 0) (refused needlessGroup) (value (low + high * 128) next)
-carried low (refused n) = refused n
+carried low g = onward g (λ high next. cond (eqb high 0) (refused needlessGroup) (value (low + high * 128) next))
 
 -- the groups at a place, so many at most: "30; 32 if the third byte has its top bit set"
 abbrev pub groupsAt : ℕ → List ℕ → ℕ → Got ℕ
