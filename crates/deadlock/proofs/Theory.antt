@@ -1,9 +1,8 @@
 -- Who can never go on, over any waiting: the three ways to name a task agree, deadlocked sets unite, and what keeps a stuck task stuck.
 use mathlib.Core.Path.{_≡_, refl, subst}
 use mathlib.Core.Logic.{_↔_}
-use Prim.Native.Nat.{ℕ, zero, suc}
-use Rattle.deadlock.specs.Walk.{EndlessWalk}
-use Rattle.deadlock.specs.Waiting.{TaskEdge, EventEdge, TaskNamed, EventNamed, Held, TotallyDeadlocked, Stuck}
+use Prim.Native.Nat.{ℕ, suc}
+use Rattle.deadlock.specs.Waiting.{TaskEdge, TaskNamed, EventNamed, Held, TotallyDeadlocked, Stuck}
 use Rattle.deadlock.proofs.Walks.{first, rest, follow}
 
 module _ {Event : Type 0} (Blocked Impedes : ℕ → Event → Type 0) where

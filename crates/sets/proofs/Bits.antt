@@ -1,7 +1,7 @@
 -- One bit of a number, by recursion on its place: what the laws of sets rest on.
 use mathlib.Core.Path.{_≡_, refl, sym, ap, _∙_}
 use Prim.Native.Nat.{ℕ, zero, suc, _+_, _-_, _*_, _/_, _%_, _^_, _≤_, _<_, min, max}
-use native.Mathlib.Nat.{pow-suc, mod-lt, one-mul, zero-add}
+use native.Mathlib.Nat.{pow-suc, mod-lt, one-mul}
 use native.Mathlib.Numerals.{one-add}
 use native.Mathlib.Omega.{arith}
 use lib.Pow.{shr-shr, pow-pos, shl-exact}

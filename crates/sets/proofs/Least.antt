@@ -1,6 +1,6 @@
 -- The lowest task of a set.
-use mathlib.Core.Path.{_≡_, refl, sym, ap, _∙_}
-use Prim.Native.Nat.{ℕ, zero, suc, _+_, _/_, _%_, _^_, _≤_, _<_}
+use mathlib.Core.Path.{_≡_, refl, sym, _∙_}
+use Prim.Native.Nat.{ℕ, zero, suc, _/_, _%_, _^_, _≤_, _<_}
 use native.Mathlib.Nat.{pow-suc, le-antisymm}
 use native.Mathlib.Omega.{arith}
 use lib.Count.{trailingZeros, trailing-of-zero, trailing-le, under}
