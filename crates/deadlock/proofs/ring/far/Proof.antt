@@ -1,6 +1,6 @@
 -- The invariant: the steps that are left, from here, come to where 32 come from the start.
 use mathlib.Core.Path.{_≡_, refl, sym, _∙_}
-use Prim.Native.Nat.{_-_, _≤_}
+use Prim.Native.Nat.{_-_, _≤_, _<_}
 use native.Mathlib.Omega.{arith}
 use Rattle.deadlock.specs.Steps.{goOf}
 use Rattle.deadlock.proofs.Turns.{go-turn, go-end}
@@ -29,10 +29,15 @@ loop-again : tie.Need-loop-again Inv-loop μ-loop
 loop-again c =
     let s = c .before .before .before in
     let l = c .before .before .loop in
-    (omega arith, l .inv .1 ∙ go-turn (s .args .next) (s .args .named) (l .task) (l .step) _ (c .before .loop-test .taken) (c .after .ensures))
+    let h : l .step < 32 = omega arith in
+    (omega arith, l .inv .1 ∙ go-turn (s .args .next) (s .args .named) (l .task) (l .step) _ h (c .after .ensures))
 
 returns : tie.Need-returns Inv-loop μ-loop
-returns c = let s = c .before .before in let l = c .before .loop in sym (l .inv .1 ∙ go-end (s .args .next) (s .args .named) (l .task) (l .step) (c .loop-test .left))
+returns c =
+    let s = c .before .before in
+    let l = c .before .loop in
+    let h : 32 ≤ l .step = omega arith in
+    sym (l .inv .1 ∙ go-end (s .args .next) (s .args .named) (l .task) (l .step) h)
 
 pub far-spec : {M : Type 1} → statement M
 far-spec =
