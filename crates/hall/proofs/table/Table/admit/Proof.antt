@@ -1,10 +1,7 @@
-use mathlib.Core.Path.{_≡_, sym, _∙_, ap}
-use mathlib.Core.Bool.{true}
-use Prim.Native.Nat.{ℕ}
-use Rattle.hall.specs.Calls.{called, admitOf}
-use Rattle.hall.specs.Effects.{withEntry}
+use mathlib.Core.Path.{_≡_, sym, _∙_}
+use Rattle.hall.specs.Calls.{ruled, admitOf}
 use Rattle.hall.specs.Tests.{refusalOf, admitTests}
-use Rattle.hall.proofs.Refusals.{ruled-refused, ruled-passed, admit-below}
+use Rattle.hall.proofs.Refusals.{ruled-refused, admit-below}
 use borrow.Author.Needs.{needs}
 use Rattle.hall.proofs.table.Table.admit.Statement.{statement}
 use Rattle.hall.proofs.table.Table.admit.Tie as tie
@@ -35,13 +32,8 @@ called-requires : tie.Need-called-requires
 called-requires c κs = search needs
 
 returns-2 : tie.Need-returns-2
-unfolding admitOf
-returns-2 c =
-    let s = c .before .before .before .before .before .before .args in
-    c .called .ensures
-    ∙ ap (called 0 _) (c .before .before .with-entry .ensures)
-    ∙ ap (λ (n : ℕ). called 0 n (withEntry (s .self) (s .target .0) (s .phaser .0) true n)) (c .before .before .before .phase-at .ensures)
-    ∙ ruled-passed _ _ _ (passes (c .before .before .before .before))
+unfolding admitOf ruled
+returns-2 c = simp (passes (c .before .before .before .before), c .called .ensures, c .before .before .with-entry .ensures, c .before .before .before .phase-at .ensures)
 
 pub admit-spec : {M : Type 1} → statement M
 admit-spec =

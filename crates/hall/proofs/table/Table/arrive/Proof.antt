@@ -1,11 +1,8 @@
-use mathlib.Core.Path.{_≡_, sym, _∙_, ap}
-use mathlib.Core.Bool.{true}
-use Prim.Native.Nat.{ℕ, _+_}
+use mathlib.Core.Path.{_≡_, sym, _∙_}
 use native.Mathlib.Omega.{arith}
-use Rattle.hall.specs.Calls.{called, arriveOf}
-use Rattle.hall.specs.Effects.{withEntry}
+use Rattle.hall.specs.Calls.{ruled, arriveOf}
 use Rattle.hall.specs.Tests.{refusalOf, arriveTests}
-use Rattle.hall.proofs.Refusals.{ruled-refused, ruled-passed, arrive-below}
+use Rattle.hall.proofs.Refusals.{ruled-refused, arrive-below}
 use borrow.Author.Needs.{needs}
 use Rattle.hall.proofs.table.Table.arrive.Statement.{statement}
 use Rattle.hall.proofs.table.Table.arrive.Tie as tie
@@ -39,13 +36,8 @@ called-requires : tie.Need-called-requires
 called-requires c κs = search needs
 
 returns-2 : tie.Need-returns-2
-unfolding arriveOf
-returns-2 c =
-    let s = c .before .before .before .before .before .before .args in
-    c .called .ensures
-    ∙ ap (called 0 _) (c .before .with-entry .ensures)
-    ∙ ap (λ (n : ℕ). called 0 (n + 1) (withEntry (s .self) (s .task .0) (s .phaser .0) true (n + 1))) (c .before .before .before .phase-at .ensures)
-    ∙ ruled-passed _ _ _ (passes (c .before .before .before .before))
+unfolding arriveOf ruled
+returns-2 c = simp (passes (c .before .before .before .before), c .called .ensures, c .before .with-entry .ensures, c .before .before .before .phase-at .ensures)
 
 pub arrive-spec : {M : Type 1} → statement M
 arrive-spec =

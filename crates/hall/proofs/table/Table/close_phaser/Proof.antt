@@ -1,7 +1,7 @@
-use mathlib.Core.Path.{_≡_, sym, _∙_, ap}
-use Rattle.hall.specs.Calls.{called, closePhaserOf}
+use mathlib.Core.Path.{_≡_, sym, _∙_}
+use Rattle.hall.specs.Calls.{ruled, closePhaserOf}
 use Rattle.hall.specs.Tests.{refusalOf, closePhaserTests}
-use Rattle.hall.proofs.Refusals.{ruled-refused, ruled-passed, close-below}
+use Rattle.hall.proofs.Refusals.{ruled-refused, close-below}
 use borrow.Author.Needs.{needs}
 use Rattle.hall.proofs.table.Table.close_phaser.Statement.{statement}
 use Rattle.hall.proofs.table.Table.close_phaser.Tie as tie
@@ -26,8 +26,8 @@ called-requires : tie.Need-called-requires
 called-requires c κs = search needs
 
 returns-2 : tie.Need-returns-2
-unfolding closePhaserOf
-returns-2 c = c .called .ensures ∙ ap (called 0 0) (c .before .with-open .ensures) ∙ ruled-passed _ _ _ (passes (c .before .before))
+unfolding closePhaserOf ruled
+returns-2 c = simp (passes (c .before .before), c .called .ensures, c .before .with-open .ensures)
 
 pub close-phaser-spec : {M : Type 1} → statement M
 close-phaser-spec =

@@ -1,10 +1,7 @@
-use mathlib.Core.Path.{_≡_, sym, _∙_, ap}
-use Rattle.hall.specs.Calls.{called, endTaskOf}
-use Rattle.hall.specs.Effects.{withState}
+use mathlib.Core.Path.{_≡_, sym, _∙_}
+use Rattle.hall.specs.Calls.{ruled, endTaskOf}
 use Rattle.hall.specs.Tests.{refusalOf, endTaskTests}
-use Rattle.hall.specs.declared.table.State.the-variants.{Free}
-use Rattle.hall.specs.declared.table.Table.{Table}
-use Rattle.hall.proofs.Refusals.{ruled-refused, ruled-passed, running-below}
+use Rattle.hall.proofs.Refusals.{ruled-refused, running-below}
 use borrow.Author.Needs.{needs}
 use Rattle.hall.proofs.table.Table.end_task.Statement.{statement}
 use Rattle.hall.proofs.table.Table.end_task.Tie as tie
@@ -32,13 +29,8 @@ called-requires : tie.Need-called-requires
 called-requires c κs = search needs
 
 returns-2 : tie.Need-returns-2
-unfolding endTaskOf
-returns-2 c =
-    let a = c .before .before .before .before .before .args .task .0 in
-    c .called .ensures
-    ∙ ap (called 0 0) (c .before .with-state .ensures)
-    ∙ ap (λ (x : Table). called 0 0 (withState x a Free)) (c .before .before .without-entries .ensures)
-    ∙ ruled-passed _ _ _ (passes (c .before .before .before))
+unfolding endTaskOf ruled
+returns-2 c = simp (passes (c .before .before .before), c .called .ensures, c .before .with-state .ensures, c .before .before .without-entries .ensures)
 
 pub end-task-spec : {M : Type 1} → statement M
 end-task-spec =

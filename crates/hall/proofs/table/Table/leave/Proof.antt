@@ -1,7 +1,7 @@
-use mathlib.Core.Path.{_≡_, sym, _∙_, ap}
-use Rattle.hall.specs.Calls.{called, leaveOf}
+use mathlib.Core.Path.{_≡_, sym, _∙_}
+use Rattle.hall.specs.Calls.{ruled, leaveOf}
 use Rattle.hall.specs.Tests.{refusalOf, memberTests}
-use Rattle.hall.proofs.Refusals.{ruled-refused, ruled-passed, member-below}
+use Rattle.hall.proofs.Refusals.{ruled-refused, member-below}
 use borrow.Author.Needs.{needs}
 use Rattle.hall.proofs.table.Table.leave.Statement.{statement}
 use Rattle.hall.proofs.table.Table.leave.Tie as tie
@@ -26,8 +26,8 @@ called-requires : tie.Need-called-requires
 called-requires c κs = search needs
 
 returns-2 : tie.Need-returns-2
-unfolding leaveOf
-returns-2 c = c .called .ensures ∙ ap (called 0 0) (c .before .with-entry .ensures) ∙ ruled-passed _ _ _ (passes (c .before .before))
+unfolding leaveOf ruled
+returns-2 c = simp (passes (c .before .before), c .called .ensures, c .before .with-entry .ensures)
 
 pub leave-spec : {M : Type 1} → statement M
 leave-spec =

@@ -1,7 +1,7 @@
-use mathlib.Core.Path.{_≡_, sym, _∙_, ap}
-use Rattle.hall.specs.Calls.{called, releaseOf}
+use mathlib.Core.Path.{_≡_, sym, _∙_}
+use Rattle.hall.specs.Calls.{ruled, releaseOf}
 use Rattle.hall.specs.Tests.{refusalOf, releaseTests}
-use Rattle.hall.proofs.Refusals.{ruled-refused, ruled-passed, release-below}
+use Rattle.hall.proofs.Refusals.{ruled-refused, release-below}
 use borrow.Author.Needs.{needs}
 use Rattle.hall.proofs.table.Table.release.Statement.{statement}
 use Rattle.hall.proofs.table.Table.release.Tie as tie
@@ -26,8 +26,8 @@ called-requires : tie.Need-called-requires
 called-requires c κs = search needs
 
 returns-2 : tie.Need-returns-2
-unfolding releaseOf
-returns-2 c = c .called .ensures ∙ ap (called 0 0) (c .before .with-state .ensures) ∙ ruled-passed _ _ _ (passes (c .before .before))
+unfolding releaseOf ruled
+returns-2 c = simp (passes (c .before .before), c .called .ensures, c .before .with-state .ensures)
 
 pub release-spec : {M : Type 1} → statement M
 release-spec =

@@ -1,7 +1,7 @@
-use mathlib.Core.Path.{_≡_, sym, _∙_, ap}
-use Rattle.hall.specs.Calls.{waits, waitOf}
+use mathlib.Core.Path.{_≡_, sym, _∙_}
+use Rattle.hall.specs.Calls.{ruled, waitOf}
 use Rattle.hall.specs.Tests.{refusalOf, memberTests}
-use Rattle.hall.proofs.Refusals.{ruled-refused, ruled-passed, member-below}
+use Rattle.hall.proofs.Refusals.{ruled-refused, member-below}
 use borrow.Author.Needs.{needs}
 use Rattle.hall.proofs.table.Table.wait.Statement.{statement}
 use Rattle.hall.proofs.table.Table.wait.Tie as tie
@@ -26,12 +26,8 @@ waits-requires : tie.Need-waits-requires
 waits-requires c κs = member-below _ _ _ (passes (c .before)) .0
 
 returns-2 : tie.Need-returns-2
-unfolding waitOf
-returns-2 c =
-    let s = c .before .before .before .before .args in
-    c .waits .ensures
-    ∙ ap (waits (s .self) (s .task .0) (s .phaser .0)) (c .before .phase-at .ensures)
-    ∙ ruled-passed _ _ _ (passes (c .before .before))
+unfolding waitOf ruled
+returns-2 c = simp (passes (c .before .before), c .waits .ensures, c .before .phase-at .ensures)
 
 pub wait-spec : {M : Type 1} → statement M
 wait-spec =

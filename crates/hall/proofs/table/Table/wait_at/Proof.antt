@@ -1,8 +1,8 @@
 use mathlib.Core.Path.{_≡_, sym, _∙_}
 use native.Mathlib.Omega.{arith}
-use Rattle.hall.specs.Calls.{waitAtOf}
+use Rattle.hall.specs.Calls.{ruled, waitAtOf}
 use Rattle.hall.specs.Tests.{refusalOf, waitAtTests}
-use Rattle.hall.proofs.Refusals.{ruled-refused, ruled-passed, wait-at-below}
+use Rattle.hall.proofs.Refusals.{ruled-refused, wait-at-below}
 use borrow.Author.Needs.{needs}
 use Rattle.hall.proofs.table.Table.wait_at.Statement.{statement}
 use Rattle.hall.proofs.table.Table.wait_at.Tie as tie
@@ -27,8 +27,8 @@ waits-requires : tie.Need-waits-requires
 waits-requires c κs = wait-at-below _ _ _ _ (passes c) .0
 
 returns-2 : tie.Need-returns-2
-unfolding waitAtOf
-returns-2 c = c .waits .ensures ∙ ruled-passed _ _ _ (passes (c .before))
+unfolding waitAtOf ruled
+returns-2 c = simp (passes (c .before), c .waits .ensures)
 
 pub wait-at-spec : {M : Type 1} → statement M
 wait-at-spec =
