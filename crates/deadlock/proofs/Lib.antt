@@ -1,0 +1,2 @@
+pub mod Walks
+pub mod Theory
