@@ -1,0 +1,4 @@
+pub mod Lists
+pub mod Passed
+pub mod Written
+pub mod Rows
