@@ -1,0 +1,5 @@
+pub mod Assumed
+pub mod Sums
+pub mod Never
+pub mod Steps
+pub mod Demand3
