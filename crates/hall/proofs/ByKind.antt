@@ -1,14 +1,21 @@
--- A law over all kinds of call from one for each.
+-- Laws over all kinds of call from one for each.
 use mathlib.Core.Path.{_≡_, refl, sym, subst}
 use mathlib.Core.Bool.{Bool, true, false, cond}
+use mathlib.Core.List.{List}
 use Prim.Native.Nat.{ℕ, _+_, _≤_}
 use native.Mathlib.Omega.{arith}
 use lib.Dec.{eqb}
 use borrow.Author.Tests.{eqb-true, eqb-false}
 use Rattle.hall.specs.Answers.{noKind}
-use Rattle.hall.specs.Calls.{refused, openTaskOf, endTaskOf, openPhaserOf, closePhaserOf, admitOf, leaveOf, arriveOf, waitOf, waitAtOf, releaseOf, callOf}
+use Rattle.hall.specs.Calls.{refused, openTaskOf, endTaskOf, openPhaserOf, closePhaserOf, admitOf, leaveOf, arriveOf, waits, waitOf, waitAtOf, releaseOf, callOf}
+use Rattle.hall.specs.Effects.{withState, withEntry, withOpen, withoutEntries}
+use Rattle.hall.specs.Table.{phaseAt, event}
+use Rattle.hall.specs.Tests.{Test, lowestFree, lowestUnopened}
 use Rattle.hall.specs.declared.calls.Called.{Called}
+use Rattle.hall.specs.declared.table.State.the-variants.{Free, Running, Blocked}
 use Rattle.hall.specs.declared.table.Table.{Table}
+use Rattle.hall.proofs.Passed.{Each, each-all}
+use Rattle.hall.proofs.Rows.{Row, row-cases, OpenTask, open-task-row, EndTask, end-task-row, OpenPhaser, open-phaser-row, ClosePhaser, close-phaser-row, Admit, admit-row, Member, leave-row, Arrive, arrive-row, waits-cases, wait-row, WaitAt, wait-at-row, Release, release-row}
 
 -- what holds of each kind's call holds of a call by its kind
 module _ {ℓ} (P : ℕ → Called → Type ℓ) (t : Table) (kind a p o : ℕ) where
@@ -26,3 +33,25 @@ module _ {ℓ} (P : ℕ → Called → Type ℓ) (t : Table) (kind a p o : ℕ) 
           go : (b : Bool) → eqb kind n ≡ b → P kind (cond b c d)
           go true e = subst (λ (k : ℕ). P k c) (sym (eqb-true kind n e)) x
           go false e = y (omega (arith, eqb-false kind n e))
+
+-- ---- a law of the next table: of the same table, and of each effect
+module _ (P : Table → Type 0) (t : Table) (same : P t) where
+  abbrev Next : Called → Type 0
+  Next c = P (c .table)
+
+  by-row : {call : Called} {tests : List Test} {effect : Called} {Told : Type 0} → Row t call tests effect Told → (Told → Next effect) → Next call
+  by-row {tests} r d = row-cases r Next (each-all (λ n. Next (refused t n)) (λ n. same) tests) d
+
+  by-wait : (a p n : ℕ) → P (withState t a (Blocked (event p n))) → Next (waits t a p n)
+  by-wait a p n x = waits-cases Next t a p n (λ e. same) (λ e. x)
+
+  pub next-table : (kind a p o : ℕ) → (OpenTask t → P (withState t (lowestFree t) Running)) → (EndTask t a → P (withState (withoutEntries t a 16) a Free))
+      → (OpenPhaser t a → P (withEntry (withOpen t (lowestUnopened t) true) a (lowestUnopened t) true 0)) → (ClosePhaser t p → P (withOpen t p false))
+      → (Admit t a p o → P (withEntry t o p true (phaseAt t a p))) → (Member t a p → P (withEntry t a p false 0))
+      → (Arrive t a p → P (withEntry t a p true (phaseAt t a p + 1))) → (Member t a p → P (withState t a (Blocked (event p (phaseAt t a p)))))
+      → (WaitAt t a p o → P (withState t a (Blocked (event p o)))) → (Release t a → P (withState t a Running)) → P (callOf t kind a p o .table)
+  next-table kind a p o p0 p1 p2 p3 p4 p5 p6 p7 p8 p9 =
+      kinds (λ k. Next) t kind a p o (by-row (open-task-row t) p0) (by-row (end-task-row t a) p1) (by-row (open-phaser-row t a) p2)
+      (by-row (close-phaser-row t p) p3) (by-row (admit-row t a p o) p4) (by-row (leave-row t a p) p5) (by-row (arrive-row t a p) p6)
+      (by-row (wait-row t a p) (λ h. by-wait a p (phaseAt t a p) (p7 h))) (by-row (wait-at-row t a p o) (λ h. by-wait a p o (p8 h)))
+      (by-row (release-row t a) p9) (λ h. same)

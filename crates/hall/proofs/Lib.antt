@@ -6,3 +6,4 @@ pub mod Soundness
 pub mod Impeded
 pub mod Changes
 pub mod ByKind
+pub mod Kept

@@ -18,10 +18,19 @@ abbrev pub Passed : List Test → Type 0
 Passed [] = Unit {0}
 Passed (x ∷ tests) = (x .holds ≡ true) × Passed tests
 
--- "From 10 up they are refusals": what each test gives is one
+-- the tests after the first
+abbrev pub tail : List Test → List Test
+tail [] = []
+tail (x ∷ tests) = tests
+
+-- a test of each refusal
+abbrev pub eachTest : (ℕ → Bool) → List Test → Bool
+eachTest f [] = true
+eachTest f (x ∷ tests) = f (x .refusal) && eachTest f tests
+
+-- "From 10 up they are refusals"
 abbrev pub refusals : List Test → Bool
-refusals [] = true
-refusals (x ∷ tests) = leb 10 (x .refusal) && refusals tests
+refusals tests = eachTest (leb 10) tests
 
 -- a property of each refusal
 abbrev pub Each : (ℕ → Type 0) → List Test → Type 0
@@ -31,6 +40,10 @@ Each Q (x ∷ tests) = Q (x .refusal) × Each Q tests
 pub each-all : (Q : ℕ → Type 0) → ((n : ℕ) → Q n) → (tests : List Test) → Each Q tests
 each-all Q h [] = tt
 each-all Q h (x ∷ tests) = (h (x .refusal), each-all Q h tests)
+
+pub each-told : (f : ℕ → Bool) (tests : List Test) → eachTest f tests ≡ true → Each (λ n. f n ≡ true) tests
+each-told f [] e = tt
+each-told f (x ∷ tests) e = (and-left (f (x .refusal)) (eachTest f tests) e, each-told f tests (and-right (f (x .refusal)) (eachTest f tests) e))
 
 -- one property of each from another
 pub each-map : (Q R : ℕ → Type 0) → ((n : ℕ) → 10 ≤ n → Q n → R n) → (tests : List Test) → refusals tests ≡ true → Each Q tests → Each R tests

@@ -2,7 +2,7 @@
 use mathlib.Core.Path.{_≡_, refl, ap, sym, _∙_, subst}
 use mathlib.Core.Logic.{_↔_}
 use mathlib.Core.Bool.{Bool, true, false, not, cond}
-use mathlib.Core.List.{List}
+use mathlib.Core.List.{List, _∷_}
 use Prim.Native.Nat.{ℕ, _+_, _<_, _≤_}
 use native.Mathlib.Omega.{arith}
 use lib.Dec.{lit<}
@@ -12,7 +12,7 @@ use Rattle.hall.specs.Calls.{called, refused, ruled, openTaskOf, endTask
 use Rattle.hall.specs.Effects.{withState, withEntry, withOpen, withoutEntries}
 use Rattle.hall.specs.Sound.{soundOf}
 use Rattle.hall.specs.Table.{largestPhase, stateAt, openAt, memberAt, phaseAt, isLive, isRunning, isBlocked, event}
-use Rattle.hall.specs.Tests.{Test, running, lowestFree, lowestUnopened, unused, released, openTaskTests, endTaskTests, openPhaserTests, closePhaserTests, admitTests, memberTests, arriveTests, waitAtTests, releaseTests}
+use Rattle.hall.specs.Tests.{Test, sound, running, lowestFree, lowestUnopened, unused, released, openTaskTests, endTaskTests, openPhaserTests, closePhaserTests, admitTests, memberTests, arriveTests, waitAtTests, releaseTests}
 use Rattle.hall.specs.Waiting.{reachedOf}
 use Rattle.hall.specs.declared.calls.Called.{Called}
 use Rattle.hall.specs.declared.table.Event.{Event}
@@ -20,11 +20,12 @@ use Rattle.hall.specs.declared.table.State.{State}
 use Rattle.hall.specs.declared.table.State.the-variants.{Free, Running, Blocked}
 use Rattle.hall.specs.declared.table.Table.{Table}
 use Rattle.hall.proofs.Lists.{clash}
-use Rattle.hall.proofs.Passed.{Passed, refusals, Each, ruled-is, ruled-cases, ruled-accepted}
+use Rattle.hall.proofs.Passed.{Passed, refusals, tail, Each, ruled-is, ruled-cases, ruled-accepted}
 
 -- a call is its tests and its effect; Told says what the tests say
 pub record Row (t : Table) (call : Called) (tests : List Test) (effect : Called) (Told : Type 0) : Type 0 where
   pub is : call ≡ ruled t tests effect
+  pub first : tests ≡ sound t ∷ tail tests
   pub high : refusals tests ≡ true
   pub accepts : effect .answer < 10
   pub told : Passed tests → Told
@@ -59,6 +60,7 @@ pub open-task-row : (t : Table) → Row t (openTaskOf t) (openTaskTests t) (call
 unfolding openTaskOf openTaskTests
 open-task-row t = record {
   is = refl;
+  first = refl;
   high = refl;
   accepts = lit< tt;
   told = λ p. record { sound = p .0; free = ltb-true (lowestFree t) 32 (p .1 .0) };
@@ -73,6 +75,7 @@ pub end-task-row : (t : Table) (a : ℕ) → Row t (endTaskOf t a) (endTaskTests
 unfolding endTaskOf endTaskTests running
 end-task-row t a = record {
   is = refl;
+  first = refl;
   high = refl;
   accepts = lit< tt;
   told = λ p. record { sound = p .0; caller = is-running (stateAt t a) (p .1 .1 .0) };
@@ -90,6 +93,7 @@ pub open-phaser-row : (t : Table) (a : ℕ)
 unfolding openPhaserOf openPhaserTests running
 open-phaser-row t a = record {
   is = refl;
+  first = refl;
   high = refl;
   accepts = lit< tt;
   told = λ p. record { sound = p .0; caller = is-running (stateAt t a) (p .1 .1 .0); unopened = ltb-true (lowestUnopened t) 16 (p .1 .1 .1 .0) };
@@ -105,6 +109,7 @@ pub close-phaser-row : (t : Table) (p : ℕ) → Row t (closePhaserOf t p) (clos
 unfolding closePhaserOf closePhaserTests
 close-phaser-row t p = record {
   is = refl;
+  first = refl;
   high = refl;
   accepts = lit< tt;
   told = λ x. record { sound = x .0; opens = x .1 .0; nobody = x .1 .1 .0 };
@@ -125,6 +130,7 @@ pub admit-row : (t : Table) (a p b : ℕ)
 unfolding admitOf admitTests running
 admit-row t a p b = record {
   is = refl;
+  first = refl;
   high = refl;
   accepts = lit< tt;
   told = λ x. record {
@@ -158,7 +164,7 @@ member-told t a p = (
 
 pub leave-row : (t : Table) (a p : ℕ) → Row t (leaveOf t a p) (memberTests t a p) (called done 0 (withEntry t a p false 0)) (Member t a p)
 unfolding leaveOf memberTests running
-leave-row t a p = record { is = refl; high = refl; accepts = lit< tt; told = member-told t a p .0; back = member-told t a p .1 }
+leave-row t a p = record { is = refl; first = refl; high = refl; accepts = lit< tt; told = member-told t a p .0; back = member-told t a p .1 }
 
 pub record Arrive (t : Table) (a p : ℕ) : Type 0 where
   pub sound : soundOf t ≡ true
@@ -172,6 +178,7 @@ pub arrive-row : (t : Table) (a p : ℕ)
 unfolding arriveOf arriveTests memberTests running
 arrive-row t a p = record {
   is = refl;
+  first = refl;
   high = refl;
   accepts = lit< tt;
   told = λ x. record {
@@ -200,7 +207,7 @@ waits-accepts t a p n = waits-cases (λ c. c .answer < 10) t a p n (λ e. lit< t
 pub wait-row : (t : Table) (a p : ℕ) → Row t (waitOf t a p) (memberTests t a p) (waits t a p (phaseAt t a p)) (Member t a p)
 unfolding waitOf memberTests running
 wait-row t a p =
-    record { is = refl; high = refl; accepts = waits-accepts t a p (phaseAt t a p); told = member-told t a p .0; back = member-told t a p .1 }
+    record { is = refl; first = refl; high = refl; accepts = waits-accepts t a p (phaseAt t a p); told = member-told t a p .0; back = member-told t a p .1 }
 
 pub record WaitAt (t : Table) (a p n : ℕ) : Type 0 where
   pub sound : soundOf t ≡ true
@@ -212,6 +219,7 @@ pub wait-at-row : (t : Table) (a p n : ℕ) → Row t (waitAtOf t a p n) (waitAt
 unfolding waitAtOf waitAtTests running
 wait-at-row t a p n = record {
   is = refl;
+  first = refl;
   high = refl;
   accepts = waits-accepts t a p n;
   told = λ x. record {
@@ -233,6 +241,7 @@ pub release-row : (t : Table) (a : ℕ) → Row t (releaseOf t a) (releaseTests 
 unfolding releaseOf releaseTests
 release-row t a = record {
   is = refl;
+  first = refl;
   high = refl;
   accepts = lit< tt;
   told = λ x. go (x .0) (stateAt t a) refl (x .1 .1 .1 .0);
