@@ -1,2 +1,9 @@
 pub mod Walks
 pub mod Theory
+pub mod Clearing
+pub mod Rings
+pub mod Found
+pub mod Stepping
+pub mod Moves
+pub mod Twins
+pub mod One

@@ -51,4 +51,4 @@ module _ (Named : ℕ → Type 0) (Edge : ℕ → ℕ → Type 0) where
 
 -- edges kept as one number for each of 32 tasks: from t to the number at place t
 abbrev pub Next : List ℕ → ℕ → ℕ → Type 0
-Next next t u = (t < 32) × (u ≡ getD next t 255)
+Next next t u = (t < 32) × (u ≡ getD next t 0)

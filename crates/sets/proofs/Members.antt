@@ -108,6 +108,13 @@ Put m t r = (k : ℕ) → Has r k ↔ (Has m k ⊎ ((k < 32) × (k ≡ t)))
 abbrev pub Taken : ℕ → ℕ → ℕ → Type 0
 Taken m t r = (k : ℕ) → Has r k ↔ (Has m k × (k ≡ t → ⊥))
 
+-- the set without t, as a number
+pub without-taken : (m t : ℕ) → Taken m t (m - bitAnd m (2 ^ t))
+without-taken m t k =
+    let e = less-iff m (2 ^ t) k in
+    let p = power-iff t k in
+    (λ h. (e .0 h .0, λ q. e .0 h .1 (p .1 q)), λ h. e .1 (h .0, λ q. h .1 (p .0 q)))
+
 -- ---- a part is no greater as a number, and less where it misses one: the measure of a loop that takes from a set
 abbrev pub Within : ℕ → ℕ → Type 0
 Within a b = (k : ℕ) → Has a k → Has b k
