@@ -1,28 +1,27 @@
 -- A blocked task is stuck, or a series that ends in its release is at hand; so it is stuck exactly when no series contains one.
 use mathlib.Core.Path.{_≡_, refl, ap, sym, _∙_, subst}
 use mathlib.Core.Logic.{_⊎_, inl, inr, ⊎-elim, _↔_}
+use mathlib.Core.Bool.{true}
 use mathlib.Core.List.{List, [], _∷_, _++_}
-use Prim.Native.Nat.{ℕ, zero, suc, _<_, _≤_}
+use Prim.Native.Nat.{ℕ, zero, suc, _≤_}
 use native.Mathlib.Decide.{ℕ-discrete}
 use native.Mathlib.Omega.{arith}
-use Rattle.hall.specs.Sound.{Sound}
-use Rattle.hall.specs.Table.{Shaped, stateAt}
+use Rattle.hall.specs.Sound.{Sound, soundOf}
+use Rattle.hall.specs.Table.{Shaped}
 use Rattle.hall.specs.Waiting.{BlockedOn}
 use Rattle.hall.specs.declared.table.Event.{Event}
 use Rattle.hall.specs.declared.table.Table.{Table}
-use Rattle.demands.specs.Series.{StuckIn, Call, made, Accepted, Series, Contains, Never, release, WayOn}
+use Rattle.hall.proofs.Kept.{call-sound}
+use Rattle.hall.proofs.Soundness.{sound-iff}
+use Rattle.demands.specs.Series.{StuckIn, Call, made, Accepted, Contains, Never, release, WayOn}
 use Rattle.demands.proofs.Assumed.{Laws}
-use Rattle.demands.proofs.Never.{stuck-never}
-use Rattle.demands.proofs.Steps.{left, ahead, lightens-blocked, lightens-stuck, lightens-left, Step, Tight, tight-stuck, look}
+use Rattle.demands.proofs.Never.{made-shaped, stuck-never}
+use Rattle.demands.proofs.Steps.{left, lightens-blocked, lightens-stuck, lightens-left, Step, Tight, tight-stuck, look}
+
+made-sound : (t : Table) → Shaped t → soundOf t ≡ true → (c : Call) → soundOf (made t c .table) ≡ true
+made-sound t z s c = call-sound t z s (c .kind) (c .task) (c .phaser) (c .other)
 
 module _ (L : Laws) where
-  -- tables stay shaped and sound
-  kept-shape : (t : Table) (c : Call) → Shaped t → Shaped (made t c .table)
-  kept-shape t c z = L .call-shaped t (c .kind) (c .task) (c .phaser) (c .other) z
-
-  kept-sound : (t : Table) (c : Call) → Shaped t → Sound t → Sound (made t c .table)
-  kept-sound t c z s = L .call-sound t (c .kind) (c .task) (c .phaser) (c .other) z s
-
   -- what a step leaves, and the table before it
   step-back : (t : Table) (k : ℕ) (e : Event) → BlockedOn t k e → (p : Step t)
       → (BlockedOn (made t (p .call) .table) k e → StuckIn (made t (p .call) .table) k ⊎ WayOn (made t (p .call) .table) k)
@@ -40,19 +39,19 @@ module _ (L : Laws) where
       go (no n) = back (rest (lightens-blocked (p .lightens) k e n b))
 
   -- step by step, as long as anybody can take one; in the end the blocked ones are a deadlocked set
-  module _ (t : Table) (z : Shaped t) (s : Sound t) (k : ℕ) (e : Event) (b : BlockedOn t k e) where
+  module _ (t : Table) (z : Shaped t) (s : soundOf t ≡ true) (k : ℕ) (e : Event) (b : BlockedOn t k e) where
     step-or-stuck : (Step t → StuckIn t k ⊎ WayOn t k) → StuckIn t k ⊎ WayOn t k
     step-or-stuck f = ⊎-elim f (λ (h : Tight t). inl (tight-stuck t h k e b)) (look t z s)
 
-  go-on : (n : ℕ) (t : Table) → Shaped t → Sound t → left t ≤ n → (k : ℕ) (e : Event) → BlockedOn t k e → StuckIn t k ⊎ WayOn t k
+  go-on : (n : ℕ) (t : Table) → Shaped t → soundOf t ≡ true → left t ≤ n → (k : ℕ) (e : Event) → BlockedOn t k e → StuckIn t k ⊎ WayOn t k
   go-on zero t z s l k e b = step-or-stuck t z s k e b (λ p. absurd (omega (arith, lightens-left (p .lightens))))
   go-on (suc n) t z s l k e b =
       step-or-stuck t z s k e b
       (λ p. step-back t k e b p
-      (λ c. go-on n (made t (p .call) .table) (kept-shape t (p .call) z) (kept-sound t (p .call) z s) (omega (arith, lightens-left (p .lightens))) k e c))
+      (λ c. go-on n (made t (p .call) .table) (made-shaped t z (p .call)) (made-sound t z s (p .call)) (omega (arith, lightens-left (p .lightens))) k e c))
 
   pub stuck-or-way-on : (t : Table) → Shaped t → Sound t → (k : ℕ) (e : Event) → BlockedOn t k e → StuckIn t k ⊎ WayOn t k
-  stuck-or-way-on t z s = go-on (left t) t z s (omega arith)
+  stuck-or-way-on t z s = go-on (left t) t z (sound-iff t .1 s) (omega arith)
 
   -- ---- exactly when
   ends-contains : (k : ℕ) (calls : List Call) → Contains k (calls ++ (release k ∷ []))

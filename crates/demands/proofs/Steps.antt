@@ -10,7 +10,7 @@ use Rattle.deadlock.proofs.Theory.{frame-stuck}
 use Rattle.hall.specs.Calls.{callOf}
 use Rattle.hall.specs.Every.{every}
 use Rattle.hall.specs.Rules.{put}
-use Rattle.hall.specs.Sound.{Sound}
+use Rattle.hall.specs.Sound.{Sound, soundOf}
 use Rattle.hall.specs.Table.{Shaped, stateAt, isLive, isBlocked}
 use Rattle.hall.specs.Waiting.{BlockedOn, impedesOf, Impedes, reachedOf}
 use Rattle.hall.specs.declared.table.Event.{Event}
@@ -111,10 +111,10 @@ pub record Step (t : Table) : Type 0 where
   pub lightens : Lightens task t (made t call .table)
   pub releases : (e : Event) → BlockedOn t task e → call ≡ release task
 
-end-step : (t : Table) → Shaped t → Sound t → (a : ℕ) → stateAt t a ≡ Running → Step t
+end-step : (t : Table) → Shaped t → soundOf t ≡ true → (a : ℕ) → stateAt t a ≡ Running → Step t
 unfolding callOf
 end-step t z s a q =
-    let l = row-accepted (end-task-row t a) .1 (record { sound = sound-iff t .1 s; caller = q }) in
+    let l = row-accepted (end-task-row t a) .1 (record { sound = s; caller = q }) in
     record {
       task = a;
       call = record { kind = 1; task = a; phaser = 0; other = 0 };
@@ -123,10 +123,10 @@ end-step t z s a q =
       releases = λ e b. absurd (clash (ap isBlocked (sym q ∙ b)) refl);
     }
 
-release-step : (t : Table) → Shaped t → Sound t → (a : ℕ) (e : Event) → BlockedOn t a e → reachedOf t e ≡ true → Step t
+release-step : (t : Table) → Shaped t → soundOf t ≡ true → (a : ℕ) (e : Event) → BlockedOn t a e → reachedOf t e ≡ true → Step t
 unfolding callOf
 release-step t z s a e b r =
-    let l = row-accepted (release-row t a) .1 (record { sound = sound-iff t .1 s; event = e; blocked = b; reached = r }) in
+    let l = row-accepted (release-row t a) .1 (record { sound = s; event = e; blocked = b; reached = r }) in
     record { task = a; call = release a; accepted = l; lightens = release-lightens t z a 0 0 l; releases = λ f c. refl }
 
 -- ---- or nobody can: each blocked task's event is impeded by a blocked one
@@ -164,7 +164,7 @@ none-tight t s h k e b =
     blocked u Running q l n = absurd (clash refl n)
     blocked u (Blocked f) q l n = (f, q)
 
-pub look : (t : Table) → Shaped t → Sound t → Step t ⊎ Tight t
+pub look : (t : Table) → Shaped t → soundOf t ≡ true → Step t ⊎ Tight t
 look t z s = go (every (λ k. not (loose t (stateAt t k))) 32) refl
   where
     step : (u : ℕ) (x : State) → stateAt t u ≡ x → loose t x ≡ true → Step t
@@ -173,7 +173,7 @@ look t z s = go (every (λ k. not (loose t (stateAt t k))) 32) refl
     step u (Blocked e) q h = release-step t z s u e q h
 
     go : (b : Bool) → every (λ k. not (loose t (stateAt t k))) 32 ≡ b → Step t ⊎ Tight t
-    go true h = inr (none-tight t s (λ k l. not-true (loose t (stateAt t k)) (every-at (λ k. not (loose t (stateAt t k))) 32 k h l)))
+    go true h = inr (none-tight t (sound-iff t .0 s) (λ k l. not-true (loose t (stateAt t k)) (every-at (λ k. not (loose t (stateAt t k))) 32 k h l)))
     go false h =
         let f = every-find (λ k. not (loose t (stateAt t k))) 32 h in
         inl (step (f .0) (stateAt t (f .0)) refl (not-false (loose t (stateAt t (f .0))) (f .2)))
