@@ -1,0 +1,4 @@
+pub mod States
+pub mod Sets
+pub mod Rows
+pub mod Events
