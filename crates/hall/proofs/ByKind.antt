@@ -34,24 +34,27 @@ module _ {ℓ} (P : ℕ → Called → Type ℓ) (t : Table) (kind a p o : ℕ) 
           go true e = subst (λ (k : ℕ). P k c) (sym (eqb-true kind n e)) x
           go false e = y (omega (arith, eqb-false kind n e))
 
--- ---- a law of the next table: of the same table, and of each effect
-module _ (P : Table → Type 0) (t : Table) (same : P t) where
-  abbrev Next : Called → Type 0
-  Next c = P (c .table)
+-- ---- a law of the next table, by the kind: of the same table, and of each effect
+module _ (P : ℕ → Table → Type 0) (t : Table) (same : (n : ℕ) → P n t) where
+  abbrev Next : ℕ → Called → Type 0
+  Next n c = P n (c .table)
 
-  by-row : {call : Called} {tests : List Test} {effect : Called} {Told : Type 0} → Row t call tests effect Told → (Told → Next effect) → Next call
-  by-row {tests} r d = row-cases r Next (each-all (λ n. Next (refused t n)) (λ n. same) tests) d
+  pub by-row : (n : ℕ) {call : Called} {tests : List Test} {effect : Called} {Told : Type 0} → Row t call tests effect Told → (Told → Next n effect)
+      → Next n call
+  by-row n {tests} r d = row-cases r (Next n) (each-all (λ m. Next n (refused t m)) (λ m. same n) tests) d
 
-  by-wait : (a p n : ℕ) → P (withState t a (Blocked (event p n))) → Next (waits t a p n)
-  by-wait a p n x = waits-cases Next t a p n (λ e. same) (λ e. x)
+  by-wait : (i a p n : ℕ) → P i (withState t a (Blocked (event p n))) → Next i (waits t a p n)
+  by-wait i a p n x = waits-cases (Next i) t a p n (λ e. same i) (λ e. x)
 
-  pub next-table : (kind a p o : ℕ) → (OpenTask t → P (withState t (lowestFree t) Running)) → (EndTask t a → P (withState (withoutEntries t a 16) a Free))
-      → (OpenPhaser t a → P (withEntry (withOpen t (lowestUnopened t) true) a (lowestUnopened t) true 0)) → (ClosePhaser t p → P (withOpen t p false))
-      → (Admit t a p o → P (withEntry t o p true (phaseAt t a p))) → (Member t a p → P (withEntry t a p false 0))
-      → (Arrive t a p → P (withEntry t a p true (phaseAt t a p + 1))) → (Member t a p → P (withState t a (Blocked (event p (phaseAt t a p)))))
-      → (WaitAt t a p o → P (withState t a (Blocked (event p o)))) → (Release t a → P (withState t a Running)) → P (callOf t kind a p o .table)
+  pub next-table : (kind a p o : ℕ) → (OpenTask t → P 0 (withState t (lowestFree t) Running))
+      → (EndTask t a → P 1 (withState (withoutEntries t a 16) a Free))
+      → (OpenPhaser t a → P 2 (withEntry (withOpen t (lowestUnopened t) true) a (lowestUnopened t) true 0))
+      → (ClosePhaser t p → P 3 (withOpen t p false)) → (Admit t a p o → P 4 (withEntry t o p true (phaseAt t a p)))
+      → (Member t a p → P 5 (withEntry t a p false 0)) → (Arrive t a p → P 6 (withEntry t a p true (phaseAt t a p + 1)))
+      → (Member t a p → P 7 (withState t a (Blocked (event p (phaseAt t a p))))) → (WaitAt t a p o → P 8 (withState t a (Blocked (event p o))))
+      → (Release t a → P 9 (withState t a Running)) → P kind (callOf t kind a p o .table)
   next-table kind a p o p0 p1 p2 p3 p4 p5 p6 p7 p8 p9 =
-      kinds (λ k. Next) t kind a p o (by-row (open-task-row t) p0) (by-row (end-task-row t a) p1) (by-row (open-phaser-row t a) p2)
-      (by-row (close-phaser-row t p) p3) (by-row (admit-row t a p o) p4) (by-row (leave-row t a p) p5) (by-row (arrive-row t a p) p6)
-      (by-row (wait-row t a p) (λ h. by-wait a p (phaseAt t a p) (p7 h))) (by-row (wait-at-row t a p o) (λ h. by-wait a p o (p8 h)))
-      (by-row (release-row t a) p9) (λ h. same)
+      kinds Next t kind a p o (by-row 0 (open-task-row t) p0) (by-row 1 (end-task-row t a) p1) (by-row 2 (open-phaser-row t a) p2)
+      (by-row 3 (close-phaser-row t p) p3) (by-row 4 (admit-row t a p o) p4) (by-row 5 (leave-row t a p) p5) (by-row 6 (arrive-row t a p) p6)
+      (by-row 7 (wait-row t a p) (λ h. by-wait 7 a p (phaseAt t a p) (p7 h))) (by-row 8 (wait-at-row t a p o) (λ h. by-wait 8 a p o (p8 h)))
+      (by-row 9 (release-row t a) p9) (λ h. same kind)

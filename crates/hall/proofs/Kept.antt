@@ -47,7 +47,7 @@ module _ (t : Table) where
 -- ---- the arrays keep their lengths
 pub call-shaped : (t : Table) → Shaped t → (kind a p o : ℕ) → Shaped (callOf t kind a p o .table)
 call-shaped t z kind a p o =
-    next-table Shaped t z kind a p o (λ h. state-shaped t z (lowestFree t) Running) (λ h. state-shaped (withoutEntries t a 16) (row-shaped t z a) a Free)
+    next-table (λ n. Shaped) t (λ n. z) kind a p o (λ h. state-shaped t z (lowestFree t) Running) (λ h. state-shaped (withoutEntries t a 16) (row-shaped t z a) a Free)
     (λ h. entry-shaped (withOpen t (lowestUnopened t) true) (open-shaped t z (lowestUnopened t) true) a (lowestUnopened t) true 0)
     (λ h. open-shaped t z p false) (λ h. entry-shaped t z o p true (phaseAt t a p)) (λ h. entry-shaped t z a p false 0)
     (λ h. entry-shaped t z a p true (phaseAt t a p + 1)) (λ h. state-shaped t z a (Blocked (event p (phaseAt t a p))))
@@ -100,7 +100,7 @@ module _ (t : Table) (z : Shaped t) (s : soundOf t ≡ true) where
 
   pub call-sound : (kind a p o : ℕ) → soundOf (callOf t kind a p o .table) ≡ true
   call-sound kind a p o =
-      next-table (λ u. soundOf u ≡ true) t s kind a p o (λ h. fine _ (opens-task t z h) (runs (lowestFree t))) (λ h. fine _ (ends-task t z a h) (ended a))
+      next-table (λ n u. soundOf u ≡ true) t (λ n. s) kind a p o (λ h. fine _ (opens-task t z h) (runs (lowestFree t))) (λ h. fine _ (ends-task t z a h) (ended a))
       (λ h. fine _ (opens-phaser t z a h) (phaser-opened a (lowestUnopened t) (h .caller)))
       (λ h. fine _ (closes-phaser t z p h) (phaser-closed p (h .nobody)))
       (λ h. fine _ (admits t z a p o h) (joined o p (phaseAt t a p) (h .live) (h .opens) (meaning .kept a p)))

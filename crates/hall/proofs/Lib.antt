@@ -7,3 +7,5 @@ pub mod Impeded
 pub mod Changes
 pub mod ByKind
 pub mod Kept
+pub mod Answered
+pub mod Frame
