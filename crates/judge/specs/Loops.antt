@@ -3,10 +3,10 @@ use mathlib.Core.Path.{_≡_}
 use mathlib.Core.Bool.{Bool, true, false, _&&_}
 use mathlib.Core.List.{List}
 use mathlib.Core.Logic.{_↔_}
-use Prim.Native.Nat.{ℕ}
+use Prim.Native.Nat.{ℕ, _<_}
 use lib.Dec.{ltb, eqb}
 use lib.ListN.{getD}
-use Rattle.sets.specs.Set.{Has}
+use Rattle.sets.specs.Set.{Has, LowestOf}
 use Rattle.hall.specs.Table.{event, isBlocked, stateAt}
 use Rattle.hall.specs.Waiting.{behind}
 use Rattle.hall.specs.declared.table.Event.{Event}
@@ -40,3 +40,7 @@ pub record Blockeds (t : Table) (m : ℕ) : Type 0 where
 -- in row k, where k is of `among`, those of `among` that impede k's event
 pub record RowsOf (t : Table) (among : ℕ) (rows : List ℕ) : Type 0 where
   pub iff : (k u : ℕ) → Has (getD rows k 0) u ↔ (Has among k × Has among u × ImpedesTask t k u)
+
+-- the lowest of each row
+pub record NextsOf (rows next : List ℕ) : Type 0 where
+  pub each : (k : ℕ) → k < 32 → LowestOf (getD rows k 0) (getD next k 0)

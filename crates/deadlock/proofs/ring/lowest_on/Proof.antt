@@ -3,7 +3,7 @@ use mathlib.Core.Path.{_≡_, refl, sym, _∙_}
 use Prim.Native.Nat.{_-_, _≤_}
 use native.Mathlib.Omega.{arith}
 use Rattle.deadlock.specs.Steps.{lowOf}
-use Rattle.deadlock.proofs.Stepping.{low-turn, low-end}
+use Rattle.deadlock.proofs.Turns.{low-turn, low-end}
 use Rattle.deadlock.proofs.ring.lowest_on.Statement.{statement}
 use Rattle.deadlock.proofs.ring.lowest_on.Tie as tie
 

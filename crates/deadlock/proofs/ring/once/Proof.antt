@@ -2,7 +2,8 @@
 use mathlib.Core.Path.{_≡_, refl}
 use Prim.Native.Nat.{_-_}
 use native.Mathlib.Omega.{arith}
-use Rattle.deadlock.proofs.Stepping.{Turning, turn-start, turn-more, turn-back, turn-all, step-le}
+use Rattle.deadlock.proofs.Stepping.{step-le}
+use Rattle.deadlock.proofs.Turns.{Turning, turn-start, turn-more, turn-back, turn-all}
 use Rattle.deadlock.proofs.ring.once.Statement.{statement}
 use Rattle.deadlock.proofs.ring.once.Tie as tie
 

@@ -7,8 +7,8 @@ use Rattle.sets.proofs.Loops.{Sifted, sift-start}
 use Rattle.judge.proofs.States.{impedes-read}
 use Rattle.judge.proofs.Sets.{lowest-has, lowest-lt, lowest-less, sift-more}
 use Rattle.judge.proofs.Rows.{Filled, fill-start, fill-more, fill-done}
-use Rattle.judge.proofs.task_route.edges.Statement.{statement}
-use Rattle.judge.proofs.task_route.edges.Tie as tie
+use Rattle.judge.proofs.edges.edges.Statement.{statement}
+use Rattle.judge.proofs.edges.edges.Tie as tie
 
 abbrev Inv-loop2 : tie.InvT-loop2
 Inv-loop2 among table rows todo t event place impeders₀ left₀ impeders left = (left < 2 ^ 32) × Sifted (λ u. Impedes table u event) among impeders left
