@@ -1,4 +1,3 @@
-pub mod Assumed
 pub mod Sums
 pub mod Never
 pub mod Steps

@@ -5,25 +5,26 @@ use mathlib.Core.Bool.{Bool, true, false, not}
 use Prim.Native.Nat.{ℕ, _<_, _≤_}
 use native.Mathlib.Decide.{ℕ-discrete}
 use native.Mathlib.Omega.{arith}
-use borrow.Author.Tests.{ne-eqb, not-true, not-false}
-use Rattle.deadlock.proofs.Theory.{frame-stuck}
+use borrow.Author.Tests.{not-true, not-false}
 use Rattle.hall.specs.Calls.{callOf}
 use Rattle.hall.specs.Every.{every}
 use Rattle.hall.specs.Rules.{put}
 use Rattle.hall.specs.Sound.{Sound, soundOf}
 use Rattle.hall.specs.Table.{Shaped, stateAt, isLive, isBlocked}
-use Rattle.hall.specs.Waiting.{BlockedOn, impedesOf, Impedes, reachedOf}
+use Rattle.hall.specs.Waiting.{BlockedOn, Impedes, reachedOf}
 use Rattle.hall.specs.declared.table.Event.{Event}
 use Rattle.hall.specs.declared.table.State.{State}
 use Rattle.hall.specs.declared.table.State.the-variants.{Free, Running, Blocked}
 use Rattle.hall.specs.declared.table.Table.{Table}
 use Rattle.hall.proofs.Changes.{blocked-below, end-task-changes, release-changes}
-use Rattle.hall.proofs.Impeded.{impedes-iff, impedes-below, impedes-same, unreached-impeded}
+use Rattle.hall.proofs.Frame.{Fewer, fewer-frame, end-fewer, release-fewer}
+use Rattle.hall.proofs.Impeded.{impedes-iff, impedes-below, unreached-impeded}
 use Rattle.hall.proofs.Lists.{clash, every-at, every-find}
 use Rattle.hall.proofs.Rows.{row-accepted, end-task-row, release-row}
 use Rattle.hall.proofs.Soundness.{sound-iff}
 use Rattle.hall.proofs.Written.{put-here, put-other, state-below}
 use Rattle.demands.specs.Series.{StuckIn, Call, made, Accepted, release}
+use Rattle.demands.proofs.Never.{frame-keeps}
 use Rattle.demands.proofs.Sums.{sum, sum-less}
 
 -- the calls that a task has ahead before it is gone: a release and an end, or an end
@@ -35,29 +36,15 @@ ahead (Blocked e) = 2
 abbrev pub left : Table → ℕ
 left t = sum (λ k. ahead (stateAt t k)) 32
 
--- nobody but u has changed; u is not blocked now, and has less ahead
+-- nobody comes to be blocked or to impede; every state but u's is as it was, and u has less ahead
 pub record Lightens (u : ℕ) (t t′ : Table) : Type 0 where
+  pub fewer : Fewer t t′
   pub others : (k : ℕ) → (k ≡ u → ⊥) → stateAt t′ k ≡ stateAt t k
-  pub impeding : (k : ℕ) → (k ≡ u → ⊥) → (e : Event) → impedesOf t′ k e ≡ impedesOf t k e
-  pub awake : (e : Event) → BlockedOn t′ u e → ⊥
   pub less : ahead (stateAt t′ u) < ahead (stateAt t u)
 
 module _ {u : ℕ} {t t′ : Table} (l : Lightens u t t′) where
-  -- whoever is blocked now is another
-  other : (k : ℕ) (e : Event) → BlockedOn t′ k e → k ≡ u → ⊥
-  other k e b q = l .awake e (rw q at b)
-
-  pub lightens-blocked : (k : ℕ) (e : Event) → (k ≡ u → ⊥) → BlockedOn t k e → BlockedOn t′ k e
-  lightens-blocked k e n b = l .others k n ∙ b
-
-  -- the frame read backwards: nobody becomes stuck
   pub lightens-stuck : (k : ℕ) → StuckIn t′ k → StuckIn t k
-  lightens-stuck =
-      frame-stuck (BlockedOn t′) (Impedes t′) (BlockedOn t) (Impedes t)
-      (record {
-        stays = λ k e b v f c i. sym (l .others k (other k e b)) ∙ b;
-        keeps = λ v f b e i. sym (l .impeding v (other v f b) e) ∙ i;
-      })
+  lightens-stuck = frame-keeps t′ t (fewer-frame t t′ (l .fewer))
 
   pub lightens-left : left t′ < left t
   lightens-left =
@@ -71,36 +58,26 @@ module _ {u : ℕ} {t t′ : Table} (l : Lightens u t t′) where
           go (no n) = omega (arith, ap ahead (l .others k n))
 
 -- ---- ending and releasing
-put-lightens : (t t′ : Table) (u : ℕ) (s : State) → ((k : ℕ) → stateAt t′ k ≡ put (stateAt t) u s k)
-    → ((k : ℕ) → (k ≡ u → ⊥) → (e : Event) → impedesOf t′ k e ≡ impedesOf t k e) → isBlocked s ≡ false → ahead s < ahead (stateAt t u)
+put-lightens : (t t′ : Table) (u : ℕ) (s : State) → Fewer t t′ → ((k : ℕ) → stateAt t′ k ≡ put (stateAt t) u s k) → ahead s < ahead (stateAt t u)
     → Lightens u t t′
-put-lightens t t′ u s states impeding w d = record {
+put-lightens t t′ u s f states d = record {
+  fewer = f;
   others = λ k n. states k ∙ put-other (stateAt t) u s k n;
-  impeding = impeding;
-  awake = λ e b. clash (ap isBlocked (sym now ∙ b)) w;
-  less = omega (arith, ap ahead now);
+  less = omega (arith, ap ahead (states u ∙ put-here (stateAt t) u s));
 }
-  where
-    now : stateAt t′ u ≡ s
-    now = states u ∙ put-here (stateAt t) u s
 
 -- as accepted calls, whatever the numbers that they do not use
 module _ (t : Table) (z : Shaped t) (a p o : ℕ) where
   pub end-lightens : callOf t 1 a p o .answer < 10 → Lightens a t (callOf t 1 a p o .table)
   unfolding callOf
   end-lightens l =
-      let t′ = callOf t 1 a p o .table in
-      let r = end-task-changes t z a p o l .reads in
-      put-lightens t t′ a Free (r .states)
-      (λ k n e. impedes-same t k e t′ (r .members k (e .phaser .0) ∙ simp (ne-eqb k a n)) (r .phases k (e .phaser .0) ∙ simp (ne-eqb k a n))) refl
+      put-lightens t (callOf t 1 a p o .table) a Free (end-fewer t z a p o) (end-task-changes t z a p o l .reads .states)
       (omega (arith, ap ahead (row-accepted (end-task-row t a) .0 l .caller)))
 
   pub release-lightens : callOf t 9 a p o .answer < 10 → Lightens a t (callOf t 9 a p o .table)
   unfolding callOf
   release-lightens l =
-      let t′ = callOf t 9 a p o .table in
-      let r = release-changes t z a p o l .reads in
-      put-lightens t t′ a Running (r .states) (λ k n e. impedes-same t k e t′ (r .members k (e .phaser .0)) (r .phases k (e .phaser .0))) refl
+      put-lightens t (callOf t 9 a p o .table) a Running (release-fewer t z a p o) (release-changes t z a p o l .reads .states)
       (omega (arith, ap ahead (row-accepted (release-row t a) .0 l .blocked)))
 
 -- ---- a step, where anybody can take one
