@@ -1,4 +1,5 @@
 pub mod Sums
 pub mod Never
 pub mod Steps
-pub mod Demand3
+pub mod WayOn
+pub mod Demands

@@ -2,24 +2,42 @@
 -- a call hands back, `Judged` what the judge does.
 use mathlib.Core.Path.{_≡_}
 use mathlib.Core.Logic.{_↔_}
-use Prim.Native.Nat.{ℕ, _≤_}
-use Rattle.sets.specs.Set.{Has}
+use mathlib.Core.Bool.{true}
+use Prim.Native.Nat.{ℕ, _<_, _≤_}
+use Rattle.sets.specs.Set.{Has, size}
+use Rattle.hall.specs.Answers.{done}
+use Rattle.hall.specs.Calls.{callOf}
 use Rattle.hall.specs.Sound.{Sound}
-use Rattle.hall.specs.Table.{Shaped}
-use Rattle.hall.specs.Waiting.{BlockedOn}
+use Rattle.hall.specs.Table.{memberAt, phaseAt}
+use Rattle.hall.specs.Waiting.{BlockedOn, Impedes}
 use Rattle.hall.specs.declared.table.Event.{Event}
 use Rattle.hall.specs.declared.table.Table.{Table}
 use Rattle.judge.specs.Verdict.{Judged}
 use Rattle.judge.specs.declared.verdict.Verdict.{Verdict}
-use Rattle.demands.specs.Series.{Never, WayOn}
+use Rattle.demands.specs.Series.{StuckIn, Never, WayOn}
 
+-- ---- 1
+pub record Demand1 : Type 0 where
+  -- "A refusal gives its own number and a value of 0, the table stays as it stood": of every call, with numbers of any size
+  pub call-refused : (t : Table) (kind task phaser other : ℕ) → 10 ≤ callOf t kind task phaser other .answer
+      → (callOf t kind task phaser other .value ≡ 0) × (callOf t kind task phaser other .table ≡ t)
+
+-- ---- 2
+pub record Demand2 : Type 1 where
+  -- the judge answers 0 exactly where the route is 0 or 1 and the table is sound
+  pub judges : (t : Table) (route : ℕ) (v : Verdict) → Judged t route v → (v .answer ≡ done) ↔ ((route ≤ 1) × Sound t)
+  -- "A task is named stuck exactly when it belongs to some totally deadlocked set, as source document 000 defines that ..
+  pub named : (t : Table) (route : ℕ) (v : Verdict) → Judged t route v → v .answer ≡ done → (k : ℕ) → Has (v .named) k ↔ StuckIn t k
+  -- .. for phasers": "A member with a phase less than n impedes event (p, n). Equal does not impede."
+  pub impedes : (t : Table) (u : ℕ) (e : Event) → Impedes t u e ↔ ((memberAt t u (e .phaser .0) ≡ true) × (phaseAt t u (e .phaser .0) < e .phase .0))
+
+-- ---- 3: "In every sound table .."
 -- a verdict on the table by one of the two routes
 pub record Verdicts (t : Table) (v : Verdict) : Type 0 where
   pub route : ℕ
   pub either : route ≤ 1
   pub judged : Judged t route v
 
--- ---- 3: "In every sound table .."
 pub record Demand3 (t : Table) : Type 1 where
   -- ".. the task-to-task route and the event-to-event route name the same tasks": "I can't have the verdict hang on that choice"
   pub same : (v w : Verdict) → Verdicts t v → Verdicts t w → v ≡ w
