@@ -18,7 +18,7 @@ use Rattle.hall.specs.declared.calls.Called.{Called}
 use Rattle.hall.specs.declared.table.Table.{Table}
 use Rattle.hall.proofs.ByKind.{kinds}
 use Rattle.hall.proofs.Lists.{clash, and-left, and-right, every-at}
-use Rattle.hall.proofs.Passed.{refusals, tail, eachTest, each-told, ruled-cases}
+use Rattle.hall.proofs.Passed.{refuses, tail, eachTest, each-told, ruled-cases}
 use Rattle.hall.proofs.Rows.{Row, open-task-row, end-task-row, open-phaser-row, close-phaser-row, admit-row, leave-row, arrive-row, waits-cases, wait-row, wait-at-row, release-row}
 
 -- the own numbers of each kind, past 44: what it answers where it is accepted, then its row's refusals in their order
@@ -58,7 +58,7 @@ module _ {t : Table} {call : Called} {tests : List Test} {effect : Called} {Told
   row-answers l e d s =
       let q = r .is ∙ (ap (λ (x : List Test). ruled t x effect) (r .first) ∙ later t (tail tests) effect s) in
       subst (λ (c : Called). among (c .answer) l ≡ true) (sym q)
-      (ruled-cases t (tail tests) effect (λ c. among (c .answer) l ≡ true) (and-right true (refusals (tail tests)) (ap refusals (sym (r .first)) ∙ r .high))
+      (ruled-cases t (tail tests) effect (λ c. among (c .answer) l ≡ true) (and-right true (refuses (tail tests)) (ap refuses (sym (r .first)) ∙ r .high))
       (each-told (λ n. among n l) (tail tests) e) (λ p. d))
 
   row-unsound : soundOf t ≡ false → call ≡ refused t notSound

@@ -14,7 +14,7 @@ use Rattle.hall.specs.Tests.{Test, lowestFree, lowestUnopened}
 use Rattle.hall.specs.declared.calls.Called.{Called}
 use Rattle.hall.specs.declared.table.State.the-variants.{Free, Running, Blocked}
 use Rattle.hall.specs.declared.table.Table.{Table}
-use Rattle.hall.proofs.Passed.{Each, each-all}
+use Rattle.hall.proofs.Passed.{each-all}
 use Rattle.hall.proofs.Rows.{Row, row-cases, OpenTask, open-task-row, EndTask, end-task-row, OpenPhaser, open-phaser-row, ClosePhaser, close-phaser-row, Admit, admit-row, Member, leave-row, Arrive, arrive-row, waits-cases, wait-row, WaitAt, wait-at-row, Release, release-row}
 
 -- what holds of each kind's call holds of a call by its kind

@@ -1,14 +1,14 @@
 -- What an accepted call of each kind changes, over all that a table says, so that nothing else changes.
 use mathlib.Core.Path.{_≡_, refl, ap, sym, _∙_, subst}
-use mathlib.Core.Logic.{_⊎_, inl, inr, ⊎-elim}
-use mathlib.Core.Bool.{Bool, true, false, _&&_, not, cond}
+use mathlib.Core.Logic.{_⊎_, inl, inr}
+use mathlib.Core.Bool.{Bool, true, false, not, cond}
 use mathlib.Core.List.{List}
-use Prim.Native.Nat.{ℕ, _+_, _<_, _≤_}
+use Prim.Native.Nat.{ℕ, _+_, _<_}
 use native.Mathlib.Omega.{arith}
 use lib.Dec.{ltb}
 use lib.ListN.{getD, set}
 use lib.Seq.{set-set, set-getD}
-use borrow.Author.Tests.{not-true, not-false, ltb-true, lt-ltb}
+use borrow.Author.Tests.{not-true, not-false}
 use Rattle.hall.specs.Answers.{done, waitPassed, nowBlocked}
 use Rattle.hall.specs.Calls.{called, callOf, waits}
 use Rattle.hall.specs.Effects.{withState, withEntry, withOpen, withoutEntries}
@@ -24,19 +24,21 @@ use Rattle.hall.specs.declared.table.Table.{Table}
 use Rattle.hall.specs.declared.table.Task.{Task}
 use Rattle.hall.proofs.Impeded.{impedes-same, unreached-impeded}
 use Rattle.hall.proofs.Lists.{clash, lowest-holds, lowest-lower}
-use Rattle.hall.proofs.Rows.{Row, row-accepted, row-effect, OpenTask, open-task-row, EndTask, end-task-row, OpenPhaser, open-phaser-row, ClosePhaser, close-phaser-row, Admit, admit-row, Member, leave-row, Arrive, arrive-row, waits-cases, wait-row, WaitAt, wait-at-row, Release, release-row}
-use Rattle.hall.proofs.Written.{Reads, putAt, putRow, put-here, state-below, open-below, state-shaped, state-reads, entry-shaped, entry-reads, open-shaped, open-reads, row-shaped, row-reads}
+use Rattle.hall.proofs.Rows.{Row, row-accepted, row-effect, OpenTask, open-task-row, EndTask, end-task-row, OpenPhaser, open-phaser-row, ClosePhaser, close-phaser-row, Admit, admit-row, Member, leave-row, Arrive, arrive-row, waits-cases, wait-row, wait-at-row, Release, release-row}
+use Rattle.hall.proofs.Written.{Reads, putAt, putRow, put-here, state-below, open-below, state-reads, entry-reads, open-shaped, open-reads, row-shaped, row-reads}
 
 -- ---- the numbers that opening gives
-pub free-lowest : (t : Table) → lowestFree t < 32 → (isFree (stateAt t (lowestFree t)) ≡ true) × ((k : ℕ) → k < lowestFree t → isFree (stateAt t k) ≡ false)
+pub free-lowest : (t : Table) → (lowestFree t < 32 → isFree (stateAt t (lowestFree t)) ≡ true) × ((k : ℕ) → k < lowestFree t → isFree (stateAt t k) ≡ false)
 unfolding lowestFree
-free-lowest t l =
-    (lowest-holds (λ k. isFree (stateAt t k)) 0 32 (omega arith), λ k h. lowest-lower (λ k. isFree (stateAt t k)) 0 32 k (omega arith) h)
+free-lowest t = (
+  λ l. lowest-holds (λ k. isFree (stateAt t k)) 0 32 (omega arith),
+  λ k h. lowest-lower (λ k. isFree (stateAt t k)) 0 32 k (omega arith) h,
+)
 
-pub unopened-lowest : (t : Table) → lowestUnopened t < 16 → (openAt t (lowestUnopened t) ≡ false) × ((p : ℕ) → p < lowestUnopened t → openAt t p ≡ true)
+pub unopened-lowest : (t : Table) → (lowestUnopened t < 16 → openAt t (lowestUnopened t) ≡ false) × ((p : ℕ) → p < lowestUnopened t → openAt t p ≡ true)
 unfolding lowestUnopened
-unopened-lowest t l = (
-  not-true (openAt t (lowestUnopened t)) (lowest-holds (λ p. not (openAt t p)) 0 16 (omega arith)),
+unopened-lowest t = (
+  λ l. not-true (openAt t (lowestUnopened t)) (lowest-holds (λ p. not (openAt t p)) 0 16 (omega arith)),
   λ p h. not-false (openAt t p) (lowest-lower (λ p. not (openAt t p)) 0 16 p (omega arith) h),
 )
 
@@ -167,12 +169,13 @@ module _ (t : Table) (z : Shaped t) where
   abbrev pub Waited : ℕ → ℕ → ℕ → Called → Type 0
   Waited a p n c =
       ((reachedOf t (event p n) ≡ true) × (c ≡ called waitPassed 0 t))
-      ⊎ ((reachedOf t (event p n) ≡ false) × Gives c nowBlocked 0 (put (stateAt t) a (Blocked (event p n))) (openAt t) (memberAt t) (phaseAt t))
+      ⊎ ((reachedOf t (event p n) ≡ false) × (c ≡ called nowBlocked 0 (withState t a (Blocked (event p n))))
+      × Reads (c .table) (put (stateAt t) a (Blocked (event p n))) (openAt t) (memberAt t) (phaseAt t))
 
   waited : (a p n : ℕ) → stateAt t a ≡ Running → Waited a p n (waits t a p n)
   waited a p n r =
       waits-cases (Waited a p n) t a p n (λ e. inl (e, refl))
-      (λ e. inr (e, record { answers = refl; values = refl; reads = blocks t z a (event p n) r }))
+      (λ e. inr (e, refl, blocks t z a (event p n) r))
 
   pub wait-changes : (a p o : ℕ) → callOf t 7 a p o .answer < 10 → Waited a p (phaseAt t a p) (callOf t 7 a p o)
   unfolding callOf
@@ -189,21 +192,21 @@ module _ (t : Table) (z : Shaped t) where
   -- so a wait that passes changes nothing
   pub passed-same : (a p n : ℕ) (c : Called) → Waited a p n c → c .answer ≡ waitPassed → c .table ≡ t
   passed-same a p n c (inl x) e = ap (λ (c : Called). c .table) (x .1)
-  passed-same a p n c (inr x) e = absurd (omega (arith, e, x .1 .answers))
+  passed-same a p n c (inr x) e = absurd (omega (arith, e, ap (λ (c : Called). c .answer) (x .1)))
 
   -- and one that blocks leaves the caller blocked on the event that it named, which is impeded
   pub blocked-impeded : (a p n : ℕ) (c : Called) → Waited a p n c → c .answer ≡ nowBlocked
       → BlockedOn (c .table) a (event p n) × ((u : ℕ) × Impedes (c .table) u (event p n))
   blocked-impeded a p n c (inl x) e = absurd (omega (arith, e, ap (λ (c : Called). c .answer) (x .1)))
   blocked-impeded a p n c (inr x) e =
-      let r = x .1 .reads in
+      let r = x .2 in
       let i = unreached-impeded t (event p n) (x .0) in
       (r .states a ∙ put-here (stateAt t) a (Blocked (event p n)), (i .0, impedes-same t (i .0) (event p n) (c .table) (r .members (i .0) p) (r .phases (i .0) p) ∙ i .1))
 
--- what a release does to the table of a wait that blocked gives the table before the wait
-pub release-undoes : (t : Table) (a : ℕ) (e : Event) → stateAt t a ≡ Running → withState (withState t a (Blocked e)) a Running ≡ t
+-- a state set back to what it was
+back-again : (t : Table) (a : ℕ) (e : Event) → stateAt t a ≡ Running → withState (withState t a (Blocked e)) a Running ≡ t
 unfolding withState stateAt
-release-undoes t a e r = ap back (set-set (t .tasks) a (record { state = Blocked e }) (record { state = Running }) ∙ (ap (set (t .tasks) a) task ∙ set-getD (t .tasks) a freeTask))
+back-again t a e r = ap back (set-set (t .tasks) a (record { state = Blocked e }) (record { state = Running }) ∙ (ap (set (t .tasks) a) task ∙ set-getD (t .tasks) a freeTask))
   where
     back : List Task → Table
     back l = record { tasks = l; opened = t .opened; phases = t .phases; members = t .members }
@@ -217,3 +220,9 @@ release-undoes t a e r = ap back (set-set (t .tasks) a (record { state = Blocked
 
     task : of-state Running ≡ getD (t .tasks) a freeTask
     task = ap of-state (sym (inside (ltb a 32) r))
+
+-- a release's effect, which is that the task runs, gives the table before the wait that blocked it
+pub release-undoes : (t : Table) (z : Shaped t) (a p n : ℕ) (c : Called) → stateAt t a ≡ Running → Waited t z a p n c → c .answer ≡ nowBlocked
+    → withState (c .table) a Running ≡ t
+release-undoes t z a p n c r (inl x) e = absurd (omega (arith, e, ap (λ (c : Called). c .answer) (x .1)))
+release-undoes t z a p n c r (inr x) e = ap (λ (c : Called). withState (c .table) a Running) (x .1) ∙ back-again t a (event p n) r

@@ -1,11 +1,10 @@
 -- What deadlock rests on stays through every call: a task whose event is impeded by a blocked one stays blocked on it, and what a blocked task
 -- impedes it goes on impeding.
 use mathlib.Core.Path.{_≡_, refl, ap, sym, _∙_}
-use mathlib.Core.Logic.{_⊎_, inl, inr, ⊎-elim}
+use mathlib.Core.Logic.{⊎-elim}
 use mathlib.Core.Bool.{Bool, true, false, _&&_, cond}
-use Prim.Native.Nat.{ℕ, _+_, _<_, _≤_}
+use Prim.Native.Nat.{ℕ, _+_, _<_}
 use native.Mathlib.Decide.{ℕ-discrete}
-use native.Mathlib.Omega.{arith}
 use lib.Dec.{leb, eqb}
 use borrow.Author.Tests.{eqb-true, ne-eqb, leb-true, leb-false}
 use Rattle.hall.specs.Answers.{notReached}
@@ -22,10 +21,10 @@ use Rattle.hall.specs.declared.table.State.the-variants.{Free, Running, 
 use Rattle.hall.specs.declared.table.Table.{Table}
 use Rattle.hall.proofs.ByKind.{by-row, next-table}
 use Rattle.hall.proofs.Changes.{free-lowest, opens-task, ends-task, opens-phaser, closes-phaser, admits, leaves, arrives, blocks, releases}
-use Rattle.hall.proofs.Impeded.{blocked-once, impedes-iff, impedes-same, impeded-unreached, reached-iff}
+use Rattle.hall.proofs.Impeded.{blocked-once, impedes-iff, impedes-same, impeded-unreached}
 use Rattle.hall.proofs.Kept.{call-refused}
 use Rattle.hall.proofs.Lists.{clash, decide, and-left, and-right}
-use Rattle.hall.proofs.Rows.{row-accepted, EndTask, end-task-row, Release, release-row}
+use Rattle.hall.proofs.Rows.{row-accepted, EndTask, end-task-row, release-row}
 use Rattle.hall.proofs.Written.{Reads, putAt, putRow}
 
 -- ---- one task
@@ -46,7 +45,7 @@ module _ (t : Table) (z : Shaped t) (kind a p o : ℕ) where
   pub blocked-stays : (k : ℕ) (e : Event) → BlockedOn t k e → ((kind ≡ 9) × (a ≡ k) → ⊥) → BlockedOn next k e
   blocked-stays k e b =
       next-table (λ n u. ((n ≡ 9) × (a ≡ k) → ⊥) → BlockedOn u k e) t (λ n x. b) kind a p o
-      (λ h x. opens-task t z h .states k ∙ other (lowestFree t) Running (apart t (lowestFree t) k e (free-awake (stateAt t (lowestFree t)) (free-lowest t (h .free) .0)) b))
+      (λ h x. opens-task t z h .states k ∙ other (lowestFree t) Running (apart t (lowestFree t) k e (free-awake (stateAt t (lowestFree t)) (free-lowest t .0 (h .free))) b))
       (λ h x. ends-task t z a h .states k ∙ own Free (h .caller)) (λ h x. opens-phaser t z a h .states k ∙ b) (λ h x. closes-phaser t z p h .states k ∙ b)
       (λ h x. admits t z a p o h .states k ∙ b) (λ h x. leaves t z a p h .states k ∙ b) (λ h x. arrives t z a p h .states k ∙ b)
       (λ h x. blocks t z a (event p (phaseAt t a p)) (h .caller) .states k ∙ own (Blocked (event p (phaseAt t a p))) (h .caller))

@@ -1,19 +1,18 @@
 -- Laws of who waits and who impedes.
 use mathlib.Core.Path.{_≡_, refl, ap, sym, _∙_}
 use mathlib.Core.Logic.{_↔_}
-use mathlib.Core.Bool.{Bool, true, false, _&&_, not, cond}
-use Prim.Native.Nat.{ℕ, _+_, _*_, _<_, _≤_}
-use native.Mathlib.Omega.{arith}
+use mathlib.Core.Bool.{Bool, true, false, not}
+use Prim.Native.Nat.{ℕ, _+_, _*_, _<_}
 use lib.Dec.{ltb}
 use lib.ListN.{getD}
 use borrow.Author.Tests.{ltb-true, lt-ltb, not-true, not-false}
-use Rattle.hall.specs.Table.{stateAt, entry, memberAt, phaseAt}
+use Rattle.hall.specs.Table.{entry, memberAt, phaseAt}
 use Rattle.hall.specs.Waiting.{BlockedOn, impedesOf, Impedes, reachedOf}
 use Rattle.hall.specs.declared.table.Event.{Event}
 use Rattle.hall.specs.declared.table.State.{State}
 use Rattle.hall.specs.declared.table.State.the-variants.{Free, Running, Blocked}
 use Rattle.hall.specs.declared.table.Table.{Table}
-use Rattle.hall.proofs.Lists.{clash, and-left, and-right, every-at, every-all, every-find}
+use Rattle.hall.proofs.Lists.{clash, and-left, and-right, every-at, every-find}
 
 -- a task waits on one event at most
 pub blocked-once : (t : Table) (k : ℕ) (e f : Event) → BlockedOn t k e → BlockedOn t k f → e ≡ f

@@ -1,20 +1,16 @@
 -- What every call keeps: a refusal leaves the table, the arrays keep their lengths, a sound table stays sound; and which numbers each kind answers.
-use mathlib.Core.Path.{_≡_, refl, ap, sym, _∙_, subst}
-use mathlib.Core.Logic.{_⊎_, inl, inr, ⊎-elim, _↔_}
-use mathlib.Core.Bool.{Bool, true, false, _&&_, _||_, not, cond}
-use mathlib.Core.List.{List, [], _∷_}
+use mathlib.Core.Path.{_≡_, refl, ap}
+use mathlib.Core.Bool.{Bool, true, false, _&&_, not}
+use mathlib.Core.List.{List}
 use Prim.Native.Nat.{ℕ, _+_, _<_, _≤_}
 use native.Mathlib.Omega.{arith}
-use lib.Dec.{leb, eqb, lit<, lit≤}
-use borrow.Author.Tests.{eqb-true, eq-eqb, not-true, le-leb}
-use Rattle.hall.specs.Answers.{done, waitPassed, nowBlocked, noTask, noPhaser, callerBlocked, targetBlocked, notMember, alreadyMember, phaseTooLarge, noneFree, notBlocked, notReached, inUse, noKind, notSound}
-use Rattle.hall.specs.Calls.{called, refused, ruled, openTaskOf, endTaskOf, openPhaserOf, closePhaserOf, admitOf, leaveOf, arriveOf, waits, waitOf, waitAtOf, releaseOf, callOf}
-use Rattle.hall.specs.Effects.{withState, withEntry, withOpen, withoutEntries}
-use Rattle.hall.specs.Every.{every}
-use Rattle.hall.specs.Sound.{Sound, entrySound, soundOf}
+use borrow.Author.Tests.{eq-eqb, not-true, le-leb}
+use Rattle.hall.specs.Calls.{refused, callOf}
+use Rattle.hall.specs.Effects.{withOpen, withoutEntries}
+use Rattle.hall.specs.Sound.{Sound, soundOf}
 use Rattle.hall.specs.Rules.{put}
 use Rattle.hall.specs.Table.{largestPhase, stateAt, openAt, memberAt, phaseAt, isLive, event, Shaped}
-use Rattle.hall.specs.Tests.{Test, sound, refusalOf, running, lowestFree, lowestUnopened, waitsAt, unused, openTaskTests, endTaskTests, openPhaserTests, closePhaserTests, admitTests, memberTests, arriveTests, waitAtTests, releaseTests}
+use Rattle.hall.specs.Tests.{Test, lowestFree, lowestUnopened, waitsAt, unused}
 use Rattle.hall.specs.declared.calls.Called.{Called}
 use Rattle.hall.specs.declared.table.State.{State}
 use Rattle.hall.specs.declared.table.State.the-variants.{Free, Running, Blocked}
@@ -23,8 +19,8 @@ use Rattle.hall.proofs.ByKind.{kinds, next-table}
 use Rattle.hall.proofs.Changes.{blocked-below, opens-task, ends-task, opens-phaser, closes-phaser, admits, leaves, arrives, blocks, releases}
 use Rattle.hall.proofs.Impeded.{member-below}
 use Rattle.hall.proofs.Lists.{clash, and-left, and-right, every-at}
-use Rattle.hall.proofs.Passed.{refusals, tail, eachTest, Each, each-all, each-told, ruled-cases}
-use Rattle.hall.proofs.Rows.{Row, row-cases, row-accepted, row-effect, OpenTask, open-task-row, EndTask, end-task-row, OpenPhaser, open-phaser-row, ClosePhaser, close-phaser-row, Admit, admit-row, Member, leave-row, Arrive, arrive-row, waits-cases, wait-row, WaitAt, wait-at-row, Release, release-row}
+use Rattle.hall.proofs.Passed.{each-all}
+use Rattle.hall.proofs.Rows.{Row, row-cases, open-task-row, end-task-row, open-phaser-row, close-phaser-row, admit-row, leave-row, arrive-row, wait-row, wait-at-row, release-row}
 use Rattle.hall.proofs.Soundness.{Fine, FineTable, sound-fine, fine-sound, sound-iff, reads-fine, put-state, put-entry, clear-row, put-open}
 use Rattle.hall.proofs.Written.{Reads, putAt, putRow, state-shaped, entry-shaped, open-shaped, row-shaped}
 

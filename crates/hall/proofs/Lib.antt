@@ -8,4 +8,7 @@ pub mod Changes
 pub mod ByKind
 pub mod Kept
 pub mod Answered
+pub mod Accepted
 pub mod Frame
+pub mod Maps
+pub mod Figure3

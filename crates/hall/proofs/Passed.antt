@@ -3,7 +3,7 @@ use mathlib.Core.Path.{_≡_, refl, ap, sym, _∙_, subst}
 use mathlib.Core.Logic.{_↔_}
 use mathlib.Core.Bool.{Bool, true, false, _&&_, cond}
 use mathlib.Core.List.{List, [], _∷_}
-use Prim.Native.Nat.{ℕ, zero, suc, _+_, _<_, _≤_}
+use Prim.Native.Nat.{ℕ, _<_, _≤_}
 use native.Mathlib.Omega.{arith}
 use lib.Dec.{leb, eqb}
 use borrow.Author.Tests.{leb-true, ne-eqb}
@@ -29,8 +29,8 @@ eachTest f [] = true
 eachTest f (x ∷ tests) = f (x .refusal) && eachTest f tests
 
 -- "From 10 up they are refusals"
-abbrev pub refusals : List Test → Bool
-refusals tests = eachTest (leb 10) tests
+abbrev pub refuses : List Test → Bool
+refuses tests = eachTest (leb 10) tests
 
 -- a property of each refusal
 abbrev pub Each : (ℕ → Type 0) → List Test → Type 0
@@ -46,14 +46,14 @@ each-told f [] e = tt
 each-told f (x ∷ tests) e = (and-left (f (x .refusal)) (eachTest f tests) e, each-told f tests (and-right (f (x .refusal)) (eachTest f tests) e))
 
 -- one property of each from another
-pub each-map : (Q R : ℕ → Type 0) → ((n : ℕ) → 10 ≤ n → Q n → R n) → (tests : List Test) → refusals tests ≡ true → Each Q tests → Each R tests
+pub each-map : (Q R : ℕ → Type 0) → ((n : ℕ) → 10 ≤ n → Q n → R n) → (tests : List Test) → refuses tests ≡ true → Each Q tests → Each R tests
 each-map Q R h [] r e = tt
 each-map Q R h (x ∷ tests) r e = (
-  h (x .refusal) (leb-true 10 (x .refusal) (and-left (leb 10 (x .refusal)) (refusals tests) r)) (e .0),
-  each-map Q R h tests (and-right (leb 10 (x .refusal)) (refusals tests) r) (e .1),
+  h (x .refusal) (leb-true 10 (x .refusal) (and-left (leb 10 (x .refusal)) (refuses tests) r)) (e .0),
+  each-map Q R h tests (and-right (leb 10 (x .refusal)) (refuses tests) r) (e .1),
 )
 
-pub each-high : (Q : ℕ → Type 0) → ((n : ℕ) → 10 ≤ n → Q n) → (tests : List Test) → refusals tests ≡ true → Each Q tests
+pub each-high : (Q : ℕ → Type 0) → ((n : ℕ) → 10 ≤ n → Q n) → (tests : List Test) → refuses tests ≡ true → Each Q tests
 each-high Q h tests r = each-map (λ n. Unit {0}) Q (λ n l u. h n l) tests r (each-all (λ n. Unit {0}) (λ n. tt) tests)
 
 -- the list's refusal is 0, and all hold; or it is that of a test
@@ -71,8 +71,8 @@ unfolding refusalOf
 passed-none [] p = refl
 passed-none (x ∷ tests) p = ap (λ (b : Bool). cond b (refusalOf tests) (x .refusal)) (p .0) ∙ passed-none tests (p .1)
 
-pub none-passed : (tests : List Test) → refusals tests ≡ true → refusalOf tests ≡ 0 → Passed tests
-none-passed tests r =
+pub passed : (tests : List Test) → refuses tests ≡ true → refusalOf tests ≡ 0 → Passed tests
+passed tests r =
     refusal-cases (λ n. n ≡ 0 → Passed tests) tests (λ p e. p) (each-high (λ n. n ≡ 0 → Passed tests) (λ n h e. absurd (omega arith)) tests r)
 
 -- ---- a call that is ruled by tests
@@ -83,7 +83,7 @@ module _ (t : Table) (tests : List Test) (effect : Called) where
   ruled-is p = ap (λ (n : ℕ). cond (eqb n 0) effect (refused t n)) (passed-none tests p)
 
   -- what holds of each refusal, and of the effect where all tests hold, holds of the call
-  pub ruled-cases : (P : Called → Type 0) → refusals tests ≡ true → Each (λ n. P (refused t n)) tests → (Passed tests → P effect)
+  pub ruled-cases : (P : Called → Type 0) → refuses tests ≡ true → Each (λ n. P (refused t n)) tests → (Passed tests → P effect)
       → P (ruled t tests effect)
   unfolding ruled
   ruled-cases P r e d =
@@ -92,7 +92,7 @@ module _ (t : Table) (tests : List Test) (effect : Called) where
       (λ n h x. subst (λ (b : Bool). P (cond b effect (refused t n))) (sym (ne-eqb n 0 (λ q. omega (arith, q)))) x) tests r e)
 
   -- it is accepted exactly where all hold
-  pub ruled-accepted : refusals tests ≡ true → effect .answer < 10 → (ruled t tests effect .answer < 10) ↔ Passed tests
+  pub ruled-accepted : refuses tests ≡ true → effect .answer < 10 → (ruled t tests effect .answer < 10) ↔ Passed tests
   ruled-accepted r l = (
     ruled-cases (λ c. c .answer < 10 → Passed tests) r (each-high (λ n. n < 10 → Passed tests) (λ n h e. absurd (omega arith)) tests r) (λ p z. p),
     λ p. subst (λ (c : Called). c .answer < 10) (sym (ruled-is p)) l,

@@ -4,7 +4,6 @@ use mathlib.Core.Logic.{_↔_}
 use mathlib.Core.Bool.{Bool, true, false, not, cond}
 use mathlib.Core.List.{List, _∷_}
 use Prim.Native.Nat.{ℕ, _+_, _<_, _≤_}
-use native.Mathlib.Omega.{arith}
 use lib.Dec.{lit<}
 use borrow.Author.Tests.{ltb-true, lt-ltb, leb-true, le-leb, not-true}
 use Rattle.hall.specs.Answers.{done, waitPassed, nowBlocked}
@@ -20,13 +19,13 @@ use Rattle.hall.specs.declared.table.State.{State}
 use Rattle.hall.specs.declared.table.State.the-variants.{Free, Running, Blocked}
 use Rattle.hall.specs.declared.table.Table.{Table}
 use Rattle.hall.proofs.Lists.{clash}
-use Rattle.hall.proofs.Passed.{Passed, refusals, tail, Each, ruled-is, ruled-cases, ruled-accepted}
+use Rattle.hall.proofs.Passed.{Passed, refuses, tail, Each, ruled-is, ruled-cases, ruled-accepted}
 
 -- a call is its tests and its effect; Told says what the tests say
 pub record Row (t : Table) (call : Called) (tests : List Test) (effect : Called) (Told : Type 0) : Type 0 where
   pub is : call ≡ ruled t tests effect
   pub first : tests ≡ sound t ∷ tail tests
-  pub high : refusals tests ≡ true
+  pub high : refuses tests ≡ true
   pub accepts : effect .answer < 10
   pub told : Passed tests → Told
   pub back : Told → Passed tests

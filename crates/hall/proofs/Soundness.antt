@@ -1,13 +1,12 @@
 -- The test of soundness decides its meaning, and what is written keeps it.
 use mathlib.Core.Path.{_≡_, refl, ap, sym, _∙_}
-use mathlib.Core.Logic.{_⊎_, inl, inr, ⊎-elim, _↔_}
-use mathlib.Core.Bool.{Bool, true, false, _&&_, not, cond, and-false}
-use Prim.Native.Nat.{ℕ, zero, suc, _+_, _*_, _/_, _%_, _<_, _≤_}
+use mathlib.Core.Logic.{_↔_}
+use mathlib.Core.Bool.{Bool, true, false, _&&_, cond, and-false}
+use Prim.Native.Nat.{ℕ, zero, suc, _+_, _*_, _/_, _%_, _≤_}
 use native.Mathlib.Omega.{arith}
-use lib.Dec.{leb, ltb, eqb, lit≤}
+use lib.Dec.{leb, ltb, eqb}
 use lib.ListN.{getD, replicate, length-replicate}
-use borrow.Author.Tests.{eqb-true, eqb-false, eq-eqb, ltb-true, leb-true, le-leb}
-use Rattle.hall.specs.Every.{every}
+use borrow.Author.Tests.{eqb-true, eq-eqb, ltb-true, leb-true, le-leb}
 use Rattle.hall.specs.Sound.{Sound, entrySound, stateSound, entriesSound, statesSound, soundOf}
 use Rattle.hall.specs.Rules.{put}
 use Rattle.hall.specs.Table.{largestPhase, stateAt, openAt, entry, memberAt, phaseAt, isLive, freeTask, phase0, freshTable, Shaped}
@@ -18,7 +17,7 @@ use Rattle.hall.specs.declared.table.State.{State}
 use Rattle.hall.specs.declared.table.State.the-variants.{Free, Running, Blocked}
 use Rattle.hall.specs.declared.table.Table.{Table}
 use Rattle.hall.specs.declared.table.Task.{Task}
-use Rattle.hall.proofs.Lists.{clash, decide, and-left, and-right, every-at, every-all}
+use Rattle.hall.proofs.Lists.{and-left, and-right, every-at, every-all}
 use Rattle.hall.proofs.Written.{Reads, putAt, putRow}
 
 -- a state is sound where these phasers are open
@@ -42,7 +41,7 @@ module _ (t : Table) where
   state-await Running = refl
   state-await (Blocked e) = refl
 
-  -- out of range nobody is a member, at phase 0, and nobody's state is free
+  -- out of range nobody is a member, phases are 0 and states free
   member-out : (k p : ℕ) → entry k p ≡ false → memberAt t k p ≡ false
   unfolding memberAt
   member-out k p e = rw e
@@ -140,6 +139,7 @@ fresh-shaped = record {
   members = length-replicate 512 false;
 }
 
+-- each element is the default
 same : {A : Type 0} (n i : ℕ) (v : A) → getD (replicate n v) i v ≡ v
 same zero i v = refl
 same (suc n) zero v = refl

@@ -1,7 +1,7 @@
 -- What is read of a table after each write. A law about calls is told of what is read, never of lists.
 use mathlib.Core.Path.{_≡_, refl, ap, sym, _∙_}
 use mathlib.Core.Logic.{_⊎_, inl, inr, ⊎-elim}
-use mathlib.Core.Bool.{Bool, true, false, _&&_, cond, and-false}
+use mathlib.Core.Bool.{Bool, true, false, _&&_, cond}
 use mathlib.Core.List.{List}
 use Prim.Native.Nat.{ℕ, _+_, _*_, _<_, _≤_}
 use native.Mathlib.Omega.{arith}
@@ -63,6 +63,7 @@ place j q k p h g = go (eqb j k) (eqb q p) refl refl
     go true false e f = ne-eqb (j * 16 + q) (k * 16 + p) (λ x. eqb-false q p f (omega (arith, x, eqb-true j k e)))
     go false c e f = ne-eqb (j * 16 + q) (k * 16 + p) (λ x. eqb-false j k e (omega (arith, x)))
 
+-- an entry out of range is not one in range
 outside : (j q k p : ℕ) → k < 32 → p < 16 → entry j q ≡ false → eqb j k && eqb q p ≡ false
 outside j q k p h g e = ⊎-elim
     (λ (x : eqb j k && eqb q p ≡ true).
