@@ -2,4 +2,5 @@ pub mod Sums
 pub mod Never
 pub mod Steps
 pub mod WayOn
+pub mod Moves
 pub mod Demands

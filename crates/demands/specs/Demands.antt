@@ -4,22 +4,26 @@ use mathlib.Core.Path.{_≡_}
 use mathlib.Core.Logic.{_↔_}
 use mathlib.Core.Bool.{true}
 use Prim.Native.Nat.{ℕ, _<_, _≤_}
-use Rattle.sets.specs.Set.{Has, size}
-use Rattle.hall.specs.Answers.{done}
+use Rattle.sets.specs.Set.{Has}
+use Rattle.hall.specs.Answers.{done, noKind, notSound}
 use Rattle.hall.specs.Calls.{callOf}
 use Rattle.hall.specs.Sound.{Sound}
-use Rattle.hall.specs.Table.{memberAt, phaseAt}
+use Rattle.hall.specs.Table.{Shaped, memberAt, phaseAt}
 use Rattle.hall.specs.Waiting.{BlockedOn, Impedes}
 use Rattle.hall.specs.declared.table.Event.{Event}
 use Rattle.hall.specs.declared.table.Table.{Table}
 use Rattle.judge.specs.Verdict.{Judged}
 use Rattle.judge.specs.declared.verdict.Verdict.{Verdict}
+use Rattle.demands.specs.Moves.{ByRules}
 use Rattle.demands.specs.Series.{StuckIn, Never, WayOn}
 
 -- ---- 1
 pub record Demand1 : Type 0 where
-  -- "A refusal gives its own number and a value of 0, the table stays as it stood": of every call, with numbers of any size
-  pub call-refused : (t : Table) (kind task phaser other : ℕ) → 10 ≤ callOf t kind task phaser other .answer
+  -- "Every call .., with numbers of any size in it, is answered": any other kind with 42; a table that is not sound with 44; else by the kind's own row
+  pub no-kind : (t : Table) (kind task phaser other : ℕ) → (callOf t kind task phaser other .answer ≡ noKind) ↔ (10 ≤ kind)
+  pub not-sound : (t : Table) (kind task phaser other : ℕ) → (callOf t kind task phaser other .answer ≡ notSound) ↔ ((kind < 10) × (Sound t → ⊥))
+  -- "A refusal gives its own number and a value of 0, the table stays as it stood"
+  pub refusal : (t : Table) (kind task phaser other : ℕ) → 10 ≤ callOf t kind task phaser other .answer
       → (callOf t kind task phaser other .value ≡ 0) × (callOf t kind task phaser other .table ≡ t)
 
 -- ---- 2
@@ -28,8 +32,10 @@ pub record Demand2 : Type 1 where
   pub judges : (t : Table) (route : ℕ) (v : Verdict) → Judged t route v → (v .answer ≡ done) ↔ ((route ≤ 1) × Sound t)
   -- "A task is named stuck exactly when it belongs to some totally deadlocked set, as source document 000 defines that ..
   pub named : (t : Table) (route : ℕ) (v : Verdict) → Judged t route v → v .answer ≡ done → (k : ℕ) → Has (v .named) k ↔ StuckIn t k
-  -- .. for phasers": "A member with a phase less than n impedes event (p, n). Equal does not impede."
+  -- .. for phasers": "A member with a phase less than n impedes event (p, n). Equal does not impede." (document 01)
   pub impedes : (t : Table) (u : ℕ) (e : Event) → Impedes t u e ↔ ((memberAt t u (e .phaser .0) ≡ true) × (phaseAt t u (e .phaser .0) < e .phase .0))
+  -- "Calls move the table by that paper's rules, within the limits, additions and one narrowing that document 01 states."
+  pub moves : (t : Table) → Shaped t → ByRules t
 
 -- ---- 3: "In every sound table .."
 -- a verdict on the table by one of the two routes
@@ -45,3 +51,9 @@ pub record Demand3 (t : Table) : Type 1 where
   pub never : (v : Verdict) → Verdicts t v → (k : ℕ) (e : Event) → BlockedOn t k e → Has (v .named) k ↔ Never t k
   -- "a task left off the list must have a way to go on"
   pub way-on : (v : Verdict) → Verdicts t v → (k : ℕ) (e : Event) → BlockedOn t k e → (Has (v .named) k → ⊥) → WayOn t k
+
+-- the three; `Shaped` has the arrays' lengths, which code has by their types
+pub record Demands : Type 1 where
+  pub first : Demand1
+  pub second : Demand2
+  pub third : (t : Table) → Shaped t → Sound t → Demand3 t

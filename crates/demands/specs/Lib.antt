@@ -1,2 +1,3 @@
 pub mod Series
+pub mod Moves
 pub mod Demands
