@@ -1,6 +1,6 @@
 -- The three demands hold.
 use mathlib.Core.Path.{_≡_, ap}
-use mathlib.Core.Logic.{_⊎_, ⊎-elim, _↔_, Iff·trans}
+use mathlib.Core.Logic.{⊎-elim, _↔_, Iff·trans}
 use mathlib.Core.Bool.{true}
 use Prim.Native.Nat.{ℕ}
 use Rattle.sets.specs.Set.{Has}

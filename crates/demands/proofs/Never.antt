@@ -1,5 +1,5 @@
 -- A stuck task is released in no series: every call keeps it stuck, and a release is refused where the event is impeded.
-use mathlib.Core.Logic.{_⊎_, ⊎-elim}
+use mathlib.Core.Logic.{⊎-elim}
 use mathlib.Core.List.{[], _∷_}
 use Prim.Native.Nat.{ℕ}
 use Rattle.deadlock.proofs.Theory.{frame-stuck}

@@ -9,7 +9,7 @@ use Rattle.hall.specs.Answers.{waitPassed, nowBlocked}
 use Rattle.hall.specs.Calls.{callOf}
 use Rattle.hall.specs.Rules.{Phaser, PhaserMap, Await, NewP, Reg, Dereg, Arrv, AwaitN, AwaitOwn, phasersOf}
 use Rattle.hall.specs.Sound.{Sound}
-use Rattle.hall.specs.Table.{largestPhase, stateAt, openAt, phaseAt, event}
+use Rattle.hall.specs.Table.{largestPhase, stateAt, openAt, phaseAt}
 use Rattle.hall.specs.Waiting.{BlockedOn}
 use Rattle.hall.specs.declared.calls.Called.{Called}
 use Rattle.hall.specs.declared.table.Event.{Event}
