@@ -18,7 +18,8 @@ use Rattle.hall.specs.declared.calls.Called.{Called}
 use Rattle.hall.specs.declared.table.Table.{Table}
 use Rattle.hall.proofs.ByKind.{kinds}
 use Rattle.hall.proofs.Lists.{clash, and-left, and-right, every-at}
-use Rattle.hall.proofs.Passed.{refuses, tail, eachTest, each-told, ruled-cases}
+use Rattle.hall.proofs.Passed.{tail, eachTest, each-told, ruled-cases}
+use Rattle.hall.proofs.Refusals.{refuses}
 use Rattle.hall.proofs.Rows.{Row, open-task-row, end-task-row, open-phaser-row, close-phaser-row, admit-row, leave-row, arrive-row, waits-cases, wait-row, wait-at-row, release-row}
 
 -- the own numbers of each kind, past 44: what it answers where it is accepted, then its row's refusals in their order
@@ -55,6 +56,7 @@ module _ (t : Table) (rest : List Test) (effect : Called) where
 module _ {t : Table} {call : Called} {tests : List Test} {effect : Called} {Told : Type 0} (r : Row t call tests effect Told) where
   row-answers : (l : List ℕ) → eachTest (λ n. among n l) (tail tests) ≡ true → among (effect .answer) l ≡ true → soundOf t ≡ true
       → among (call .answer) l ≡ true
+  unfolding refuses
   row-answers l e d s =
       let q = r .is ∙ (ap (λ (x : List Test). ruled t x effect) (r .first) ∙ later t (tail tests) effect s) in
       subst (λ (c : Called). among (c .answer) l ≡ true) (sym q)

@@ -24,8 +24,9 @@ use Rattle.hall.specs.declared.table.Table.{Table}
 use Rattle.hall.specs.declared.table.Task.{Task}
 use Rattle.hall.proofs.Impeded.{impedes-same, unreached-impeded}
 use Rattle.hall.proofs.Lists.{clash, lowest-holds, lowest-lower}
+use Rattle.hall.proofs.Places.{live-below, open-below}
 use Rattle.hall.proofs.Rows.{Row, row-accepted, row-effect, OpenTask, open-task-row, EndTask, end-task-row, OpenPhaser, open-phaser-row, ClosePhaser, close-phaser-row, Admit, admit-row, Member, leave-row, Arrive, arrive-row, waits-cases, wait-row, wait-at-row, Release, release-row}
-use Rattle.hall.proofs.Written.{Reads, putAt, putRow, put-here, state-below, open-below, state-reads, entry-reads, open-shaped, open-reads, row-shaped, row-reads}
+use Rattle.hall.proofs.Written.{Reads, putAt, putRow, put-here, state-reads, entry-reads, open-shaped, open-reads, row-shaped, row-reads}
 
 -- ---- the numbers that opening gives
 pub free-lowest : (t : Table) → (lowestFree t < 32 → isFree (stateAt t (lowestFree t)) ≡ true) × ((k : ℕ) → k < lowestFree t → isFree (stateAt t k) ≡ false)
@@ -43,9 +44,6 @@ unopened-lowest t = (
 )
 
 -- ---- who is in range
-pub live-below : (t : Table) (k : ℕ) → isLive (stateAt t k) ≡ true → k < 32
-live-below t k l = state-below t k (λ e. clash l (ap isLive e))
-
 pub running-below : (t : Table) (k : ℕ) → stateAt t k ≡ Running → k < 32
 running-below t k e = live-below t k (ap isLive e)
 

@@ -13,6 +13,7 @@ use lib.Seq.{getD-set-same, getD-set-other}
 use borrow.Author.Tests.{eqb-true, eqb-false}
 use Rattle.hall.specs.Effects.{filled}
 use Rattle.hall.specs.Every.{every, lowestFrom}
+pub use Rattle.hall.proofs.Every.{and-left, and-right, every-at, every-all}
 
 -- ---- tests
 -- no test holds and fails
@@ -24,29 +25,7 @@ pub decide : (b : Bool) → (b ≡ true) ⊎ (b ≡ false)
 decide true = inl refl
 decide false = inr refl
 
-pub and-left : (a b : Bool) → a && b ≡ true → a ≡ true
-and-left true b e = refl
-and-left false b e = e
-
-pub and-right : (a b : Bool) → a && b ≡ true → b ≡ true
-and-right true b e = e
-and-right false b e = absurd (clash e refl)
-
 -- ---- tests below a bound
--- what holds of all holds of each
-pub every-at : (f : ℕ → Bool) (n k : ℕ) → every f n ≡ true → k < n → f k ≡ true
-unfolding every
-every-at f zero k e h = absurd (omega arith)
-every-at f (suc n) k e h =
-    ⊎-elim (λ (q : k ≡ n). rw q (and-right (every f n) (f n) e)) (λ (l : k < n). every-at f n k (and-left (every f n) (f n) e) l)
-    (eq-or-lt-of-le (le-of-suc-le-suc h))
-
--- what holds of each holds of all
-pub every-all : (f : ℕ → Bool) (n : ℕ) → ((k : ℕ) → k < n → f k ≡ true) → every f n ≡ true
-unfolding every
-every-all f zero h = refl
-every-all f (suc n) h = simp (every-all f n (λ k l. h k (omega arith)), h n (omega arith))
-
 -- what fails of all fails of one
 pub every-find : (f : ℕ → Bool) (n : ℕ) → every f n ≡ false → (k : ℕ) × (k < n) × (f k ≡ false)
 unfolding every

@@ -11,12 +11,8 @@ use Rattle.hall.specs.Calls.{refused, ruled}
 use Rattle.hall.specs.Tests.{Test, refusalOf}
 use Rattle.hall.specs.declared.calls.Called.{Called}
 use Rattle.hall.specs.declared.table.Table.{Table}
-use Rattle.hall.proofs.Lists.{and-left, and-right}
-
--- every test holds
-abbrev pub Passed : List Test → Type 0
-Passed [] = Unit {0}
-Passed (x ∷ tests) = (x .holds ≡ true) × Passed tests
+use Rattle.hall.proofs.Every.{and-left, and-right}
+use Rattle.hall.proofs.Refusals.{refuses, Passed}
 
 -- the tests after the first
 abbrev pub tail : List Test → List Test
@@ -27,10 +23,6 @@ tail (x ∷ tests) = tests
 abbrev pub eachTest : (ℕ → Bool) → List Test → Bool
 eachTest f [] = true
 eachTest f (x ∷ tests) = f (x .refusal) && eachTest f tests
-
--- "From 10 up they are refusals"
-abbrev pub refuses : List Test → Bool
-refuses tests = eachTest (leb 10) tests
 
 -- a property of each refusal
 abbrev pub Each : (ℕ → Type 0) → List Test → Type 0
@@ -47,6 +39,7 @@ each-told f (x ∷ tests) e = (and-left (f (x .refusal)) (eachTest f tests) e, e
 
 -- one property of each from another
 pub each-map : (Q R : ℕ → Type 0) → ((n : ℕ) → 10 ≤ n → Q n → R n) → (tests : List Test) → refuses tests ≡ true → Each Q tests → Each R tests
+unfolding refuses
 each-map Q R h [] r e = tt
 each-map Q R h (x ∷ tests) r e = (
   h (x .refusal) (leb-true 10 (x .refusal) (and-left (leb 10 (x .refusal)) (refuses tests) r)) (e .0),
@@ -58,7 +51,7 @@ each-high Q h tests r = each-map (λ n. Unit {0}) Q (λ n l u. h n l) tests r (e
 
 -- the list's refusal is 0, and all hold; or it is that of a test
 pub refusal-cases : (Q : ℕ → Type 0) (tests : List Test) → (Passed tests → Q 0) → Each Q tests → Q (refusalOf tests)
-unfolding refusalOf
+unfolding refusalOf Passed
 refusal-cases Q [] h e = h tt
 refusal-cases Q (x ∷ tests) h e = go (x .holds) refl (λ q. refusal-cases Q tests (λ p. h (q, p)) (e .1))
   where
@@ -67,13 +60,9 @@ refusal-cases Q (x ∷ tests) h e = go (x .holds) refl (λ q. refusal-cases Q te
     go false q rec = e .0
 
 pub passed-none : (tests : List Test) → Passed tests → refusalOf tests ≡ 0
-unfolding refusalOf
+unfolding refusalOf Passed
 passed-none [] p = refl
 passed-none (x ∷ tests) p = ap (λ (b : Bool). cond b (refusalOf tests) (x .refusal)) (p .0) ∙ passed-none tests (p .1)
-
-pub passed : (tests : List Test) → refuses tests ≡ true → refusalOf tests ≡ 0 → Passed tests
-passed tests r =
-    refusal-cases (λ n. n ≡ 0 → Passed tests) tests (λ p e. p) (each-high (λ n. n ≡ 0 → Passed tests) (λ n h e. absurd (omega arith)) tests r)
 
 -- ---- a call that is ruled by tests
 module _ (t : Table) (tests : List Test) (effect : Called) where

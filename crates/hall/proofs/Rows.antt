@@ -19,7 +19,8 @@ use Rattle.hall.specs.declared.table.State.{State}
 use Rattle.hall.specs.declared.table.State.the-variants.{Free, Running, Blocked}
 use Rattle.hall.specs.declared.table.Table.{Table}
 use Rattle.hall.proofs.Lists.{clash}
-use Rattle.hall.proofs.Passed.{Passed, refuses, tail, Each, ruled-is, ruled-cases, ruled-accepted}
+use Rattle.hall.proofs.Passed.{tail, Each, ruled-is, ruled-cases, ruled-accepted}
+use Rattle.hall.proofs.Refusals.{refuses, Passed}
 
 -- a call is its tests and its effect; Told says what the tests say
 pub record Row (t : Table) (call : Called) (tests : List Test) (effect : Called) (Told : Type 0) : Type 0 where
@@ -56,7 +57,7 @@ pub record OpenTask (t : Table) : Type 0 where
   pub free : lowestFree t < 32
 
 pub open-task-row : (t : Table) → Row t (openTaskOf t) (openTaskTests t) (called done (lowestFree t) (withState t (lowestFree t) Running)) (OpenTask t)
-unfolding openTaskOf openTaskTests
+unfolding openTaskOf openTaskTests refuses Passed
 open-task-row t = record {
   is = refl;
   first = refl;
@@ -71,7 +72,7 @@ pub record EndTask (t : Table) (a : ℕ) : Type 0 where
   pub caller : stateAt t a ≡ Running
 
 pub end-task-row : (t : Table) (a : ℕ) → Row t (endTaskOf t a) (endTaskTests t a) (called done 0 (withState (withoutEntries t a 16) a Free)) (EndTask t a)
-unfolding endTaskOf endTaskTests running
+unfolding endTaskOf endTaskTests running refuses Passed
 end-task-row t a = record {
   is = refl;
   first = refl;
@@ -89,7 +90,7 @@ pub record OpenPhaser (t : Table) (a : ℕ) : Type 0 where
 pub open-phaser-row : (t : Table) (a : ℕ)
     → Row t (openPhaserOf t a) (openPhaserTests t a)
     (called done (lowestUnopened t) (withEntry (withOpen t (lowestUnopened t) true) a (lowestUnopened t) true 0)) (OpenPhaser t a)
-unfolding openPhaserOf openPhaserTests running
+unfolding openPhaserOf openPhaserTests running refuses Passed
 open-phaser-row t a = record {
   is = refl;
   first = refl;
@@ -105,7 +106,7 @@ pub record ClosePhaser (t : Table) (p : ℕ) : Type 0 where
   pub nobody : unused t p ≡ true
 
 pub close-phaser-row : (t : Table) (p : ℕ) → Row t (closePhaserOf t p) (closePhaserTests t p) (called done 0 (withOpen t p false)) (ClosePhaser t p)
-unfolding closePhaserOf closePhaserTests
+unfolding closePhaserOf closePhaserTests refuses Passed
 close-phaser-row t p = record {
   is = refl;
   first = refl;
@@ -126,7 +127,7 @@ pub record Admit (t : Table) (a p b : ℕ) : Type 0 where
 
 pub admit-row : (t : Table) (a p b : ℕ)
     → Row t (admitOf t a p b) (admitTests t a p b) (called done (phaseAt t a p) (withEntry t b p true (phaseAt t a p))) (Admit t a p b)
-unfolding admitOf admitTests running
+unfolding admitOf admitTests running refuses Passed
 admit-row t a p b = record {
   is = refl;
   first = refl;
@@ -155,14 +156,14 @@ pub record Member (t : Table) (a p : ℕ) : Type 0 where
   pub member : memberAt t a p ≡ true
 
 member-told : (t : Table) (a p : ℕ) → Passed (memberTests t a p) ↔ Member t a p
-unfolding memberTests running
+unfolding memberTests running refuses Passed
 member-told t a p = (
   λ x. record { sound = x .0; caller = is-running (stateAt t a) (x .1 .1 .0); opens = x .1 .1 .1 .0; member = x .1 .1 .1 .1 .0 },
   λ h. (h .sound, (ap isLive (h .caller), (ap isRunning (h .caller), (h .opens, (h .member, tt))))),
 )
 
 pub leave-row : (t : Table) (a p : ℕ) → Row t (leaveOf t a p) (memberTests t a p) (called done 0 (withEntry t a p false 0)) (Member t a p)
-unfolding leaveOf memberTests running
+unfolding leaveOf memberTests running refuses Passed
 leave-row t a p = record { is = refl; first = refl; high = refl; accepts = lit< tt; told = member-told t a p .0; back = member-told t a p .1 }
 
 pub record Arrive (t : Table) (a p : ℕ) : Type 0 where
@@ -174,7 +175,7 @@ pub record Arrive (t : Table) (a p : ℕ) : Type 0 where
 
 pub arrive-row : (t : Table) (a p : ℕ)
     → Row t (arriveOf t a p) (arriveTests t a p) (called done (phaseAt t a p + 1) (withEntry t a p true (phaseAt t a p + 1))) (Arrive t a p)
-unfolding arriveOf arriveTests memberTests running
+unfolding arriveOf arriveTests memberTests running refuses Passed
 arrive-row t a p = record {
   is = refl;
   first = refl;
@@ -204,7 +205,7 @@ waits-accepts : (t : Table) (a p n : ℕ) → waits t a p n .answer < 10
 waits-accepts t a p n = waits-cases (λ c. c .answer < 10) t a p n (λ e. lit< tt) (λ e. lit< tt)
 
 pub wait-row : (t : Table) (a p : ℕ) → Row t (waitOf t a p) (memberTests t a p) (waits t a p (phaseAt t a p)) (Member t a p)
-unfolding waitOf memberTests running
+unfolding waitOf memberTests running refuses Passed
 wait-row t a p =
     record { is = refl; first = refl; high = refl; accepts = waits-accepts t a p (phaseAt t a p); told = member-told t a p .0; back = member-told t a p .1 }
 
@@ -215,7 +216,7 @@ pub record WaitAt (t : Table) (a p n : ℕ) : Type 0 where
   pub fits : n ≤ largestPhase
 
 pub wait-at-row : (t : Table) (a p n : ℕ) → Row t (waitAtOf t a p n) (waitAtTests t a p n) (waits t a p n) (WaitAt t a p n)
-unfolding waitAtOf waitAtTests running
+unfolding waitAtOf waitAtTests running refuses Passed
 wait-at-row t a p n = record {
   is = refl;
   first = refl;
@@ -237,7 +238,7 @@ pub record Release (t : Table) (a : ℕ) : Type 0 where
   pub reached : reachedOf t event ≡ true
 
 pub release-row : (t : Table) (a : ℕ) → Row t (releaseOf t a) (releaseTests t a) (called done 0 (withState t a Running)) (Release t a)
-unfolding releaseOf releaseTests
+unfolding releaseOf releaseTests refuses Passed
 release-row t a = record {
   is = refl;
   first = refl;

@@ -40,7 +40,7 @@ module _ {A : Type 0} (f : ℕ → A) (k : ℕ) (v : A) where
   pub put-other : (j : ℕ) → (j ≡ k → ⊥) → put f k v j ≡ f j
   put-other j n = rw (ne-eqb j k n)
 
--- ---- numbers out of range
+-- a task that is not free has a number in range
 pub state-below : (t : Table) (k : ℕ) → (stateAt t k ≡ Free → ⊥) → k < 32
 unfolding stateAt
 state-below t k n = go (ltb k 32) refl n
@@ -48,10 +48,6 @@ state-below t k n = go (ltb k 32) refl n
     go : (b : Bool) → ltb k 32 ≡ b → (cond b (getD (t .tasks) k freeTask .state) Free ≡ Free → ⊥) → k < 32
     go true e n = ltb-true k 32 e
     go false e n = absurd (n refl)
-
-pub open-below : (t : Table) (p : ℕ) → openAt t p ≡ true → p < 16
-unfolding openAt
-open-below t p e = ltb-true p 16 (and-left (ltb p 16) (getD (t .opened) p false) e)
 
 -- ---- entries of a list of 512
 -- two entries have one place only if they are one
