@@ -6,3 +6,4 @@ pub mod Tasks
 pub mod Named
 pub mod One
 pub mod Answers
+pub mod Verdicts

@@ -20,7 +20,7 @@ use Rattle.hall.specs.declared.table.Table.{Table}
 use Rattle.judge.specs.Verdict.{ImpedesTask}
 use Rattle.judge.specs.Loops.{Blockeds, eventOf, sameOf, awaitsOf, slow}
 
-and-inv : (a b : Bool) → (a && b) ≡ true → (a ≡ true) × (b ≡ true)
+pub and-inv : (a b : Bool) → (a && b) ≡ true → (a ≡ true) × (b ≡ true)
 and-inv true b e = (refl, e)
 and-inv false b e = absurd (false≢true e)
 

@@ -14,7 +14,9 @@ use Rattle.hall.specs.declared.table.Phase.{Phase}
 use Rattle.hall.specs.declared.table.State.{State}
 use Rattle.hall.specs.declared.table.State.the-variants.{Free, Running, Blocked}
 use Rattle.hall.specs.declared.table.Table.{Table}
+use Rattle.judge.specs.Routes.{TaskRoute, EventRoute}
 use Rattle.judge.specs.Verdict.{ImpedesTask}
+use Rattle.judge.specs.declared.verdict.Verdict.{Verdict}
 
 -- the event that a task awaits; where it awaits none, one that nobody impedes
 unfoldable pub eventOf : State → Event
@@ -44,3 +46,16 @@ pub record RowsOf (t : Table) (among : ℕ) (rows : List ℕ) : Type 0 where
 -- the lowest of each row
 pub record NextsOf (rows next : List ℕ) : Type 0 where
   pub each : (k : ℕ) → k < 32 → LowestOf (getD rows k 0) (getD next k 0)
+
+-- the named set by route 0, or by any other
+pub record ByRoute (t : Table) (route named : ℕ) : Type 0 where
+  pub tasks : route ≡ 0 → TaskRoute t named
+  pub events : (route ≡ 0 → ⊥) → EventRoute t named
+
+-- two verdicts, field by field
+pub record Alike (a b : Verdict) : Type 0 where
+  pub ring : (i : ℕ) → i < 32 → getD (a .ring) i 0 ≡ getD (b .ring) i 0
+  pub answer : a .answer ≡ b .answer
+  pub named : a .named ≡ b .named
+  pub count : a .count ≡ b .count
+  pub length : a .length ≡ b .length
