@@ -22,8 +22,8 @@ returns c = c .refused .ensures ∙ ruled-refused _ _ _ _ (c .before .before .ar
 phase-at-requires : tie.Need-phase-at-requires
 phase-at-requires c κs = search needs
 
-add-reached : tie.Need-add-reached
-add-reached c = omega (arith, arrive-below _ _ _ (sym (c .before .before .before .arrive-refusal .ensures) ∙ c .before .before .if1 .left), c .before .phase-at .ensures)
+add-higher : tie.Need-add-higher
+add-higher c = omega (arith, arrive-below _ _ _ (sym (c .before .before .before .arrive-refusal .ensures) ∙ c .before .before .if1 .left), c .before .phase-at .ensures)
 
 with-entry-requires : tie.Need-with-entry-requires
 with-entry-requires c κs = arrive-below _ _ _ (sym (c .before .before .before .arrive-refusal .ensures) ∙ c .before .before .if1 .left) .0
@@ -51,7 +51,7 @@ arrive-spec =
     refused-requires
     returns
     phase-at-requires
-    add-reached
+    add-higher
     with-entry-requires
     cast-called
     called-requires

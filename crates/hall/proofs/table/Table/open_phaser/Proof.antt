@@ -24,13 +24,13 @@ refused-requires-2 c κs = search needs
 
 returns-2 : tie.Need-returns-2
 unfolding openPhaserOf ruled
-returns-2 c = simp (open-phaser-row, ← (c .before .before .before .before .running-refusal .ensures), c .before .before .before .if1 .left, ← (c .before .before .lowest-unopened .ensures), le-ltb _ _ (c .before .if2 .taken), c .refused2 .ensures)
+returns-2 c = simp (open-phaser-row, ← (c .before .before .before .before .before .running-refusal .ensures), c .before .before .before .before .if1 .left, ← (c .before .before .before .lowest-unopened .ensures), le-ltb _ _ (c .before .if2 .taken), c .refused2 .ensures)
 
 with-open-requires : tie.Need-with-open-requires
 with-open-requires c κs = search needs
 
 with-entry-requires : tie.Need-with-entry-requires
-with-entry-requires c κs = (running-below _ _ (sym (c .before .before .before .before .running-refusal .ensures) ∙ c .before .before .before .if1 .left), search needs)
+with-entry-requires c κs = (running-below _ _ (sym (c .before .before .before .before .before .running-refusal .ensures) ∙ c .before .before .before .before .if1 .left), search needs)
 
 called-requires : tie.Need-called-requires
 called-requires c κs = search needs
@@ -40,9 +40,9 @@ unfolding openPhaserOf ruled
 returns-3 c =
     simp (
       open-phaser-row,
-      ← (c .before .before .before .before .before .before .running-refusal .ensures),
-      c .before .before .before .before .before .if1 .left,
-      ← (c .before .before .before .before .lowest-unopened .ensures),
+      ← (c .before .before .before .before .before .before .before .running-refusal .ensures),
+      c .before .before .before .before .before .before .if1 .left,
+      ← (c .before .before .before .before .before .lowest-unopened .ensures),
       lt-ltb _ _ (c .before .before .before .if2 .left),
       c .called .ensures,
       c .before .with-entry .ensures,

@@ -24,7 +24,7 @@ refused-requires-2 c κs = search needs
 
 returns-2 : tie.Need-returns-2
 unfolding openTaskOf ruled refusalOf openTaskTests
-returns-2 c = simp (sym (c .before .before .before .before .is-sound .ensures) ∙ not-false _ (c .before .before .before .if1 .left), ← (c .before .before .lowest-free .ensures), le-ltb _ _ (c .before .if2 .taken), c .refused2 .ensures)
+returns-2 c = simp (sym (c .before .before .before .before .before .is-sound .ensures) ∙ not-false _ (c .before .before .before .before .if1 .left), ← (c .before .before .before .lowest-free .ensures), le-ltb _ _ (c .before .if2 .taken), c .refused2 .ensures)
 
 with-state-requires : tie.Need-with-state-requires
 with-state-requires c κs = search needs
@@ -34,7 +34,7 @@ called-requires c κs = search needs
 
 returns-3 : tie.Need-returns-3
 unfolding openTaskOf ruled refusalOf openTaskTests
-returns-3 c = simp (sym (c .before .before .before .before .before .is-sound .ensures) ∙ not-false _ (c .before .before .before .before .if1 .left), ← (c .before .before .before .lowest-free .ensures), lt-ltb _ _ (c .before .before .if2 .left), c .called .ensures, c .before .with-state .ensures)
+returns-3 c = simp (sym (c .before .before .before .before .before .before .is-sound .ensures) ∙ not-false _ (c .before .before .before .before .before .if1 .left), ← (c .before .before .before .before .lowest-free .ensures), lt-ltb _ _ (c .before .before .if2 .left), c .called .ensures, c .before .with-state .ensures)
 
 pub open-task-spec : {M : Type 1} → statement M
 open-task-spec =
