@@ -1,0 +1,4 @@
+mod Groups
+mod Onward
+mod Bounds
+mod Steps

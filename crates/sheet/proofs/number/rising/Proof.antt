@@ -1,0 +1,30 @@
+use borrow.Author.Needs.{needs}
+use borrow.Author.Tests.{lt-ltb, le-ltb}
+use Rattle.sheet.specs.Number.{risingAt}
+use Rattle.sheet.proofs.number.rising.Statement.{statement}
+use Rattle.sheet.proofs.number.rising.Tie as tie
+
+read-requires : tie.Need-read-requires
+read-requires c κs = search needs
+
+enum-known-number : tie.Need-enum-known-number
+enum-known-number c = search needs
+
+enum-told : tie.Need-enum-told
+enum-told c = search needs
+
+returns : tie.Need-returns
+unfolding risingAt
+returns c = rw (← c .before .before .read .ensures, c .enum-told .given .1)
+
+returns-2 : tie.Need-returns-2
+unfolding risingAt
+returns-2 c = rw (← c .before .before .before .before .read .ensures, c .before .before .number .given .1, lt-ltb _ _ (c .if1 .taken))
+
+returns-3 : tie.Need-returns-3
+unfolding risingAt
+returns-3 c = rw (← c .before .before .before .before .read .ensures, c .before .before .number .given .1, le-ltb _ _ (c .if1 .left))
+
+pub rising-spec : {M : Type 1} → statement M
+rising-spec =
+    tie.close (tie.spec read-requires enum-known-number enum-told returns returns-2 returns-3)

@@ -1,0 +1,17 @@
+use borrow.Author.Needs.{needs}
+use mathlib.Core.Path.{sym, ap, _∙_}
+use Rattle.hall.specs.declared.table.State.the-variants.{Blocked}
+use Rattle.sheet.specs.Fields.{blockedAt}
+use Rattle.sheet.proofs.Steps.{made}
+use Rattle.sheet.proofs.reader.blocked_at.Statement.{statement}
+use Rattle.sheet.proofs.reader.blocked_at.Tie as tie
+
+event-at-requires : tie.Need-event-at-requires
+event-at-requires c κs = search needs
+
+returns : tie.Need-returns
+unfolding blockedAt
+returns c = rw (← c .before .event-at .ensures) (made (c .before .event-at .result .place) (c .before .event-at .result .event) Blocked)
+
+pub blocked-at-spec : {M : Type 1} → statement M
+blocked-at-spec = tie.close (tie.spec event-at-requires returns)

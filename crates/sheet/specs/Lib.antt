@@ -1,0 +1,5 @@
+pub mod Answers
+pub mod Got
+pub mod Number
+pub mod Fields
+pub mod Written
