@@ -9,12 +9,11 @@ use lib.Dec.{eqb}
 use lib.ListN.{length, getD}
 use borrow.Author.Tests.{eqb-false, ne-eqb, eq-eqb, lt-ltb, le-ltb, lt-leb, le-leb}
 use Rattle.sheet.specs.Answers.{endsInside, needlessGroup, tooLarge}
-use Rattle.sheet.specs.Got.{Got, value, refused}
+use Rattle.sheet.specs.Got.{Got, value, refused, onward}
 use Rattle.sheet.specs.Number.{further, carried, groupsAt}
 
 abbrev pub over : ℕ → ℕ → Got ℕ → Got ℕ
-over low weight (value high next) = cond (eqb high 0) (refused needlessGroup) (value (low + high * weight) next)
-over low weight (refused n) = refused n
+over low weight g = onward g (λ high next. cond (eqb high 0) (refused needlessGroup) (value (low + high * weight) next))
 
 pub over-start : (low : ℕ) (g : Got ℕ) → over low 128 g ≡ carried low g
 over-start low (value high next) = refl

@@ -2,3 +2,12 @@ mod Groups
 mod Onward
 mod Bounds
 mod Steps
+pub mod Same
+pub mod Numbers
+mod Tables
+mod Gather
+pub mod Accepted
+pub mod Written
+pub mod Settled
+pub mod Theorems
+pub mod Examples

@@ -13,8 +13,7 @@ further = 2
 
 -- a group, and the number of those that follow it: "31 if there is more than one group and the last is 0", for then that number is 0
 abbrev pub carried : ℕ → Got ℕ → Got ℕ
-carried low (value high next) = cond (eqb high 0) (refused needlessGroup) (value (low + high * 128) next)
-carried low (refused n) = refused n
+carried low g = onward g (λ high next. cond (eqb high 0) (refused needlessGroup) (value (low + high * 128) next))
 
 -- the groups at a place, so many at most: "30; 32 if the third byte has its top bit set"
 abbrev pub groupsAt : ℕ → List ℕ → ℕ → Got ℕ

@@ -1,0 +1,44 @@
+-- Worked examples: document 01's P12, its sheets, and for each refusal a shortest sheet that is given it.
+use Prim.Native.Nat.{ℕ}
+use mathlib.Core.Path.{_≡_, refl}
+use mathlib.Core.List.{List, [], _∷_}
+use Rattle.hall.specs.Table.{event, stateAt, openAt, memberAt, phaseAt, freshTable}
+use Rattle.hall.specs.declared.table.State.the-variants.{Running, Blocked}
+use Rattle.hall.specs.declared.table.Table.{Table}
+use Rattle.sheet.specs.Got.{value, refused}
+use Rattle.sheet.specs.Number.{plainAt, numberAt, risingAt, numberBytes}
+use Rattle.sheet.specs.Fields.{each, openStep, opensAt, countAt, listsAt, headAt, phaseOn, eventAt, blockedAt, stateOn, memberStep, rowAt, entryOn, entryAt, laid, withRow, taskStep, tasksAt, entriesAt, tableAt, sheetAt}
+use Rattle.sheet.specs.Written.{listed, sheetOf}
+
+-- P12: `AC 02` is 300; `FF FF 03` is 65,535; `80 00` is 31; `80 80 04` as a phase is 32
+pub p12 : (numberAt (172 ∷ 2 ∷ []) 65535 0 ≡ value 300 2) × (numberAt (255 ∷ 255 ∷ 3 ∷ []) 65535 0 ≡ value 65535 3)
+    × (numberAt (128 ∷ 0 ∷ []) 65535 0 ≡ refused 31) × (numberAt (128 ∷ 128 ∷ 4 ∷ []) 65535 0 ≡ refused 32)
+unfolding numberAt plainAt
+p12 = (refl, refl, refl, refl)
+
+-- the third byte's top bit comes before a needless group, and the end before both
+pub in-order : (plainAt (128 ∷ 128 ∷ 128 ∷ []) 0 ≡ refused 32) × (plainAt (128 ∷ 128 ∷ 0 ∷ []) 0 ≡ refused 31) × (plainAt (128 ∷ 128 ∷ []) 0 ≡ refused 30)
+unfolding plainAt
+in-order = (refl, refl, refl)
+
+pub refusals : (sheetAt [] .answer ≡ 30) × (sheetAt (128 ∷ 0 ∷ []) .answer ≡ 31) × (sheetAt (1 ∷ 17 ∷ []) .answer ≡ 32)
+    × (sheetAt (1 ∷ 2 ∷ 0 ∷ 0 ∷ []) .answer ≡ 33) × (sheetAt (0 ∷ []) .answer ≡ 34) × (sheetAt (1 ∷ 0 ∷ 0 ∷ 0 ∷ []) .answer ≡ 35)
+    × (sheetAt (1 ∷ 0 ∷ 1 ∷ 0 ∷ 1 ∷ 0 ∷ []) .answer ≡ 36)
+unfolding sheetAt tableAt headAt listsAt countAt opensAt openStep each entriesAt tasksAt taskStep entryAt entryOn stateOn blockedAt eventAt plainAt numberAt risingAt
+refusals = (refl, refl, refl, refl, refl, refl, refl)
+
+-- "The empty table is `01 00 00`"
+pub empty : (sheetAt (1 ∷ 0 ∷ 0 ∷ []) ≡ record { answer = 0; table = freshTable }) × (sheetOf freshTable ≡ 1 ∷ 0 ∷ 0 ∷ [])
+unfolding sheetAt tableAt headAt listsAt countAt opensAt each entriesAt tasksAt plainAt numberAt freshTable sheetOf listed numberBytes openAt stateAt
+empty = (refl, refl)
+
+abbrev pub p4 : List ℕ
+p4 = 1 ∷ 2 ∷ 0 ∷ 1 ∷ 2 ∷ 0 ∷ 1 ∷ 0 ∷ 1 ∷ 2 ∷ 0 ∷ 1 ∷ 1 ∷ 0 ∷ 1 ∷ 1 ∷ 1 ∷ 1 ∷ 2 ∷ 0 ∷ 0 ∷ 1 ∷ 1 ∷ []
+
+-- P4: task 0 waits (0,1), task 1 waits (1,1); 0: 0@1, 1@0; 1: 0@0, 1@1
+abbrev pub SaysP4 : Table → Type 0
+SaysP4 t = (stateAt t 0 ≡ Blocked (event 0 1)) × (stateAt t 1 ≡ Blocked (event 1 1)) × (phaseAt t 0 0 ≡ 1) × (phaseAt t 1 0 ≡ 0) × (phaseAt t 0 1 ≡ 0) × (phaseAt t 1 1 ≡ 1)
+
+pub p4-read : (sheetAt p4 .answer ≡ 0) × SaysP4 (sheetAt p4 .table) × (sheetOf (sheetAt p4 .table) ≡ p4)
+unfolding sheetAt tableAt headAt listsAt countAt opensAt openStep each entriesAt tasksAt taskStep entryAt entryOn stateOn blockedAt eventAt phaseOn rowAt memberStep plainAt numberAt risingAt withRow laid sheetOf listed numberBytes openAt stateAt memberAt phaseAt
+p4-read = (refl, (refl, refl, refl, refl, refl, refl), refl)

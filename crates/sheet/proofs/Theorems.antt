@@ -1,0 +1,86 @@
+-- What is true of the reader's answers, for all bytes.
+use Prim.Native.Nat.{ℕ, _≤_}
+use mathlib.Core.Path.{_≡_, refl, sym, ap, _∙_}
+use mathlib.Core.Logic.{_↔_}
+use mathlib.Core.Bool.{_&&_, _||_}
+use mathlib.Core.List.{List}
+use native.Mathlib.Omega.{arith}
+use lib.Dec.{T, eqb, leb}
+use lib.ListN.{length, take}
+use borrow.Author.Tests.{ne-eqb}
+use Rattle.hall.specs.Table.{Shaped, freshTable}
+use Rattle.hall.specs.Sound.{Sound}
+use Rattle.hall.specs.declared.table.Table.{Table}
+use Rattle.sheet.specs.declared.number.Number.{Number}
+use Rattle.sheet.specs.declared.number.Number.the-variants.{Value, Refused}
+use Rattle.sheet.specs.declared.reader.Sheet.{Sheet}
+use Rattle.sheet.specs.Got.{Got, value, refused, outcome}
+use Rattle.sheet.specs.Fields.{tableAt, handed, sheetAt}
+use Rattle.sheet.specs.Written.{sheetOf}
+use Rattle.sheet.proofs.Same.{Same, fine, none, same-holds}
+use Rattle.sheet.proofs.Numbers.{Bytes}
+use Rattle.sheet.proofs.Accepted.{Accepted, accepted}
+use Rattle.sheet.proofs.Written.{written}
+use Rattle.sheet.proofs.Settled.{longest, settles}
+
+-- the answer is 0 and the table t
+abbrev pub Accepts : List ℕ → Table → Type 0
+Accepts s t = (sheetAt s .answer ≡ 0) × (sheetAt s .table ≡ t)
+
+-- answer 0 is given to nothing that is refused
+got-table : {Q : Table → ℕ → Type 0} {g h : Got Table} {t : Table} → Same Q g h → handed g .answer ≡ 0 → handed g .table ≡ t → (at : ℕ) × (g ≡ value t at)
+got-table (fine {at = at} q) a e = (at, rw e)
+got-table (none {n} r) a e = absurd (rw a at r)
+
+table-of : (s : List ℕ) → Bytes s → (t : Table) → Accepts s t → (at : ℕ) × (tableAt s ≡ value t at)
+unfolding sheetAt
+table-of s b t h = got-table (accepted s b) (h .0) (h .1)
+
+-- THE READER ACCEPTS EXACTLY THE SHEETS OF SOUND TABLES
+pub accepts : (s : List ℕ) → Bytes s → (t : Table) → Accepts s t ↔ (Sound t × Shaped t × (s ≡ sheetOf t))
+unfolding sheetAt
+accepts s b t = (to, from)
+  where
+    to : Accepts s t → Sound t × Shaped t × (s ≡ sheetOf t)
+    to h = let a = same-holds (accepted s b) (table-of s b t h .1) in (a .sound, a .shaped, a .sheet)
+
+    from : Sound t × Shaped t × (s ≡ sheetOf t) → Accepts s t
+    from h = rw (h .2, written t (h .0) (h .1)) (refl, refl)
+
+-- two accepted sheets of one table are the same bytes
+pub one-sheet : (s s' : List ℕ) → Bytes s → Bytes s' → (t : Table) → Accepts s t → Accepts s' t → s ≡ s'
+one-sheet s s' b b' t h h' = accepts s b t .0 h .2 ∙ sym (accepts s' b' t .0 h' .2)
+
+-- "The longest sheet has 2,291 bytes"
+pub no-longer : (s : List ℕ) → Bytes s → (t : Table) → Accepts s t → length s ≤ 2291
+no-longer s b t h = longest s b (table-of s b t h .1)
+
+-- "So reading 2,292 settles any input"
+pub settled : (s : List ℕ) → Bytes s → sheetAt s ≡ sheetAt (take 2292 s)
+unfolding sheetAt
+settled s b = ap handed (settles s b)
+
+-- every answer is 0 or one of 30 to 36
+pub answers : (s : List ℕ) → Bytes s → T (eqb (sheetAt s .answer) 0 || (leb 30 (sheetAt s .answer) && leb (sheetAt s .answer) 36))
+unfolding sheetAt
+answers s b = go (accepted s b)
+  where
+    go : {Q : Table → ℕ → Type 0} {g h : Got Table} → Same Q g h → T (eqb (handed g .answer) 0 || (leb 30 (handed g .answer) && leb (handed g .answer) 36))
+    go (fine q) = tt
+    go (none {n} r) = rw (ne-eqb n 0 (λ e. absurd (rw e at r))) r
+
+-- "A sheet reader that refuses hands back a fresh table"
+pub refused-fresh : (s : List ℕ) → ¬ (sheetAt s .answer ≡ 0) → sheetAt s .table ≡ freshTable
+unfolding sheetAt
+refused-fresh s h = go (tableAt s) h
+  where
+    go : (g : Got Table) → ¬ (handed g .answer ≡ 0) → handed g .table ≡ freshTable
+    go (value t at) e = absurd (e refl)
+    go (refused n) e = refl
+
+-- the promise of a number allows one answer
+pub one-number : (a b : Number) → outcome a ≡ outcome b → a ≡ b
+one-number (Value v next) (Value w after) e = let x : v ≡ w = cc in let y : next ≡ after = cc in rw (x, y)
+one-number (Value v next) (Refused n) e = absurd (let z : _≡_ {A = ℕ} 0 1 = cc in omega arith)
+one-number (Refused n) (Value v next) e = absurd (let z : _≡_ {A = ℕ} 0 1 = cc in omega arith)
+one-number (Refused n) (Refused m) e = let x : n ≡ m = cc in rw x
