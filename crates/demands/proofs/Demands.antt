@@ -16,9 +16,11 @@ use Rattle.hall.proofs.Soundness.{sound-iff}
 use Rattle.judge.specs.declared.verdict.Verdict.{Verdict}
 use Rattle.judge.proofs.Answers.{answer-0, judged-holds}
 use Rattle.judge.proofs.One.{routes-agree}
+use Rattle.judge.proofs.Twins.{judgeOf, judgeOf-judged}
 use Rattle.demands.specs.Series.{StuckIn, WayOn}
 use Rattle.demands.specs.Demands.{Demand1, Demand2, Verdicts, Demand3, Demands}
 use Rattle.demands.proofs.Moves.{by-rules}
+use Rattle.demands.proofs.Sheets.{sheet-answered, accepted-iff, refused-kept, strip-judged}
 use Rattle.demands.proofs.WayOn.{stuck-or-way-on, stuck-iff-never}
 
 demand-1 : Demand1
@@ -32,15 +34,20 @@ demand-1 = record {
   refusal = λ t kind task phaser other l.
       let q = call-refused t kind task phaser other l in
       (ap (λ (c : Called). c .value) q, ap (λ (c : Called). c .table) q);
+  sheet = sheet-answered;
+  sheet-accepted = accepted-iff;
+  strip = refused-kept;
 }
 
 demand-2 : Demand2
 demand-2 = record {
-  judges = λ t route v j.
+  judged = λ t route. (judgeOf t route, judgeOf-judged t route);
+  answers = λ t route v j.
       let i = answer-0 t route v j in
       (λ e. let x = i .0 e in (x .0, sound-iff t .0 (x .1)), λ x. i .1 (x .0, sound-iff t .1 (x .1)));
   named = λ t route v j e. let x = answer-0 t route v j .0 e in judged-holds t route v j (x .0) (x .1) .stuck;
   impedes = impedes-iff;
+  listed = strip-judged;
   moves = by-rules;
 }
 

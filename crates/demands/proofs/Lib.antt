@@ -3,4 +3,5 @@ pub mod Never
 pub mod Steps
 pub mod WayOn
 pub mod Moves
+pub mod Sheets
 pub mod Demands
