@@ -5,3 +5,4 @@ pub mod WayOn
 pub mod Moves
 pub mod Sheets
 pub mod Demands
+pub mod OneAnswer

@@ -190,19 +190,13 @@ module _ (s : List ℕ) (eight : Bytes s) where
   module _ (k : ℕ) (x : State) (r : Row) (t : Table) (hk : k < 32) (h : Shaped t) where
     bytes-here : taskBytes (entered (entryOf k x r) t) k ≡ numberBytes k ++ (stateBytes x ++ listed (rowMember r) (rowBytes r) 16)
     bytes-here =
-        rw (
-          state-here k x r t hk h,
-          listed-same (memberAt (entered (entryOf k x r) t) k) (rowMember r) (memberBytes (entered (entryOf k x r) t) k) (rowBytes r) 16
-              (λ p l. member-here k x r t hk h p l) (λ p l m. rw (phase-here k x r t hk h p l)),
-        )
+        rw (state-here k x r t hk h, listed-same (memberAt (entered (entryOf k x r) t) k) (rowMember r) (memberBytes (entered (entryOf k x r) t) k) (rowBytes r) 16
+        (λ p l. member-here k x r t hk h p l) (λ p l m. rw (phase-here k x r t hk h p l)))
 
     bytes-else : (i : ℕ) → ¬ (i ≡ k) → taskBytes (entered (entryOf k x r) t) i ≡ taskBytes t i
     bytes-else i d =
-        rw (
-          state-else k x r t hk h i d,
-          listed-same (memberAt (entered (entryOf k x r) t) i) (memberAt t i) (memberBytes (entered (entryOf k x r) t) i) (memberBytes t i) 16
-              (λ p l. member-else k x r t hk h i p d) (λ p l m. rw (phase-else k x r t hk h i p d)),
-        )
+        rw (state-else k x r t hk h i d, listed-same (memberAt (entered (entryOf k x r) t) i) (memberAt t i) (memberBytes (entered (entryOf k x r) t) i) (memberBytes t i) 16
+        (λ p l. member-else k x r t hk h i p d) (λ p l m. rw (phase-else k x r t hk h i p d)))
 
   task-ok : (opened : List Bool) (w : List ℕ) (n left : ℕ) (r : Rising Table) (at : ℕ) → Entering opened w n (suc left) r at →
       Ok (Entering opened w n left) (taskStep s opened r at)
