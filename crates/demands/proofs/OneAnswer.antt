@@ -1,6 +1,6 @@
 -- Each public promise allows one answer.
 use mathlib.Core.Path.{_≡_, ap, sym, _∙_}
-use Prim.Native.Nat.{ℕ, _<_, _≤_}
+use Prim.Native.Nat.{ℕ, _<_}
 use mathlib.Core.List.{List}
 use native.Mathlib.Decide.{ℕ-discrete, decLt}
 use native.Mathlib.Omega.{arith}
@@ -11,7 +11,6 @@ use Rattle.deadlock.specs.Ring.{Next}
 use Rattle.deadlock.specs.Walk.{EndlessWalk, Row}
 use Rattle.deadlock.proofs.One.{ring-in-one}
 use Rattle.hall.specs.Answers.{done}
-use Rattle.hall.specs.declared.table.Phase.{Phase}
 use Rattle.judge.specs.declared.verdict.Verdict.{Verdict}
 use Rattle.judge.proofs.Named.{task-one, event-one}
 use Rattle.judge.proofs.One.{judged-one}
