@@ -1,5 +1,5 @@
 -- The ring along other edges: where each step is a step there, and a task with no step has none there, the answer is the same.
-use mathlib.Core.Path.{_≡_, refl, sym, subst}
+use mathlib.Core.Path.{refl, sym, subst}
 use mathlib.Core.Bool.{Bool}
 use mathlib.Core.Logic.{_⊎_, inl, inr}
 use mathlib.Core.List.{List}
@@ -9,7 +9,7 @@ use lib.ListN.{getD}
 use Rattle.sets.specs.Set.{Has}
 use Rattle.sets.proofs.Members.{has-lt}
 use Rattle.deadlock.specs.declared.ring.Round.{Round}
-use Rattle.deadlock.specs.Ring.{Step, RingWalk, Ring, DeadEnd, Comes, nobody, round, stops, RingIn, Next}
+use Rattle.deadlock.specs.Ring.{Step, Ring, DeadEnd, Comes, nobody, round, stops, RingIn, Next}
 use Rattle.deadlock.proofs.Rings.{walk-named}
 
 module _ (Named : ℕ → Type 0) (Edge Edge′ : ℕ → ℕ → Type 0) (steps : (t u : ℕ) → Named t → Step Named Edge t u → Step Named Edge′ t u) where

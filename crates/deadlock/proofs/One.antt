@@ -1,7 +1,8 @@
 -- Each promise fixes its result: two results that both meet it are equal.
 use mathlib.Core.Path.{_≡_, refl, sym, ap, _∙_, subst}
-use mathlib.Core.Bool.{Bool, true, false}
-use mathlib.Core.List.{List, [], _∷_, _++_}
+use mathlib.Core.Bool.{Bool, false, true≢false}
+use mathlib.Core.Logic.{_↔_}
+use mathlib.Core.List.{List, [], _++_}
 use Prim.Native.Nat.{ℕ, zero, suc, _-_, _^_, _<_}
 use native.Mathlib.Omega.{arith}
 use lib.ListN.{length, replicate}
@@ -49,3 +50,12 @@ module _ (Named : ℕ → Type 0) (Edge : ℕ → ℕ → Type 0) where
       (c .0)
       (x .long ∙ ap length (c .1) ∙ sym (y .long))
       (x .places ∙ ap (λ l. l ++ replicate (32 - length l) 255) (c .1) ∙ sym (y .places))
+
+  -- the walk is not closed exactly where it stops
+  pub stops-iff : (answer : Round) → RingIn Named Edge answer → (answer .closed ≡ false) ↔ DeadEnd Named Edge
+  stops-iff answer x = (λ e. into (answer .closed) (x .ring) (x .comes) e, λ d. comes-one (answer .closed) false (x .ring) [] (x .comes) (stops d) .0)
+    where
+      into : (b : Bool) (r : List ℕ) → Comes Named Edge b r → b ≡ false → DeadEnd Named Edge
+      into _ _ (nobody n) e = absurd (true≢false e)
+      into _ _ (round y) e = absurd (true≢false e)
+      into _ _ (stops d) e = d

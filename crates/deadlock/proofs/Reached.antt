@@ -1,5 +1,5 @@
 -- The code's walk from the lowest named task comes to the ring, or to the place where it stops.
-use mathlib.Core.Path.{_≡_, refl, sym, ap, _∙_, subst}
+use mathlib.Core.Path.{_≡_, sym, ap, _∙_, subst}
 use mathlib.Core.Logic.{_⊎_, inl, inr}
 use mathlib.Core.List.{List, [], _++_}
 use Prim.Native.Nat.{ℕ, zero, suc, _+_, _-_, _^_, _≤_, _<_}
@@ -9,7 +9,7 @@ use lib.ListN.{length, getD, replicate}
 use lib.Seq.{ext-getD}
 use lib.Dec.{eqb}
 use borrow.Author.Tests.{eq-eqb, ne-eqb}
-use Rattle.sets.specs.Set.{Has, size, Least, LowestOf}
+use Rattle.sets.specs.Set.{Has, Least, LowestOf}
 use Rattle.sets.proofs.Members.{has-lt, none-has}
 use Rattle.sets.proofs.Sizes.{size-le}
 use Rattle.deadlock.specs.declared.ring.Round.{Round}

@@ -1,5 +1,5 @@
 -- The ring is one, has no repeats, and is no longer than the named set; over any named tasks and any edges.
-use mathlib.Core.Path.{_≡_, refl, sym, ap, _∙_, subst}
+use mathlib.Core.Path.{_≡_, sym, ap, _∙_, subst}
 use mathlib.Core.Logic.{_⊎_, inl, inr}
 use mathlib.Core.List.{List}
 use Prim.Native.Nat.{ℕ, zero, suc, _+_, _-_, _^_, _≤_, _<_}
@@ -9,7 +9,7 @@ use native.Mathlib.Omega.{arith}
 use lib.ListN.{length, getD}
 use lib.Seq.{ext-getD}
 use lib.Bits.{bitAnd}
-use Rattle.sets.specs.Set.{Has, size, Least}
+use Rattle.sets.specs.Set.{Has, size}
 use Rattle.sets.proofs.Members.{Taken, has-lt, without-taken}
 use Rattle.sets.proofs.Sizes.{size-taken}
 use Rattle.sets.proofs.Least.{least-one}

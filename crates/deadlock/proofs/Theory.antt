@@ -1,9 +1,10 @@
 -- Who can never go on, over any waiting: the three ways to name a task agree, deadlocked sets unite, and what keeps a stuck task stuck.
 use mathlib.Core.Path.{_≡_, refl, subst}
 use mathlib.Core.Logic.{_↔_}
-use Prim.Native.Nat.{ℕ, zero, suc}
-use Rattle.deadlock.specs.Walk.{EndlessWalk}
-use Rattle.deadlock.specs.Waiting.{TaskEdge, EventEdge, TaskNamed, EventNamed, Held, TotallyDeadlocked, Stuck}
+use Prim.Native.Nat.{ℕ, suc, _^_, _<_}
+use Rattle.sets.specs.Set.{Has}
+use Rattle.sets.proofs.Members.{same-set}
+use Rattle.deadlock.specs.Waiting.{TaskEdge, TaskNamed, EventNamed, Held, TotallyDeadlocked, Stuck}
 use Rattle.deadlock.proofs.Walks.{first, rest, follow}
 
 module _ {Event : Type 0} (Blocked Impedes : ℕ → Event → Type 0) where
@@ -71,6 +72,16 @@ module _ {Event : Type 0} (Blocked Impedes : ℕ → Event → Type 0) where
 
   pub stuck-iff-events : (t : ℕ) → Stuck Blocked Impedes t ↔ EventNamed Blocked Impedes t
   stuck-iff-events t = (λ s. named-events t (stuck-named t s), λ r. named-stuck t (events-named t r))
+
+  -- a set that is right for either route has exactly the stuck tasks, and two sets, each right for its own route, are one
+  pub named-set-stuck : (m : ℕ) → ((t : ℕ) → Has m t ↔ Named t) → (t : ℕ) → Has m t ↔ Stuck Blocked Impedes t
+  named-set-stuck m f t = (λ h. named-stuck t (f t .0 h), λ s. f t .1 (stuck-named t s))
+
+  pub events-set-named : (m : ℕ) → ((t : ℕ) → Has m t ↔ EventNamed Blocked Impedes t) → (t : ℕ) → Has m t ↔ Named t
+  events-set-named m f t = (λ h. events-named t (f t .0 h), λ w. f t .1 (named-events t w))
+
+  pub routes-one : (n a b : ℕ) → a < 2 ^ n → b < 2 ^ n → ((t : ℕ) → Has a t ↔ Named t) → ((t : ℕ) → Has b t ↔ EventNamed Blocked Impedes t) → a ≡ b
+  routes-one n a b fa fb f g = same-set n Named a b fa fb f (events-set-named b g)
 
   -- ---- the union of a family of deadlocked sets that is not empty is deadlocked
   pub union-deadlocked : {I : Type 0} (S : I → ℕ → Type 0) → ((i : I) → Deadlocked (S i)) → I → Deadlocked (λ t. (i : I) × S i t)

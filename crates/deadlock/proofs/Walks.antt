@@ -1,6 +1,5 @@
 -- Laws of endless walks, along any edges.
-use mathlib.Core.Path.{_≡_, refl, subst}
-use mathlib.Core.Logic.{_↔_}
+use mathlib.Core.Path.{refl, subst}
 use Prim.Native.Nat.{ℕ, zero, suc}
 use Rattle.deadlock.specs.Walk.{EndlessWalk}
 

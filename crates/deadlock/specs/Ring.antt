@@ -1,7 +1,7 @@
 -- The ring (document 01, 'Stuck', last paragraph), over any named tasks and any edges between them.
 use mathlib.Core.Path.{_≡_}
 use mathlib.Core.Bool.{Bool, true, false}
-use mathlib.Core.List.{List, [], _∷_, _++_}
+use mathlib.Core.List.{List, [], _++_}
 use Prim.Native.Nat.{ℕ, suc, _+_, _-_, _<_}
 use lib.ListN.{length, getD, replicate}
 use Rattle.sets.specs.Set.{Least}

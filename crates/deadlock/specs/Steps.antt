@@ -1,4 +1,4 @@
--- How the code goes round; nobody need believe this file: only private functions promise it, and proofs/Round.antt shows that it comes to the ring.
+-- How the code goes round; nobody need believe this file: only private functions promise it, and proofs/Reached.antt shows that it comes to the ring.
 use mathlib.Core.Path.{_≡_}
 use mathlib.Core.Bool.{true, cond}
 use mathlib.Core.List.{List, [], _∷_, _++_}

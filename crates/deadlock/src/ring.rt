@@ -1,5 +1,5 @@
 ghost use mathlib.Core.Path.{_≡_};
-ghost use Prim.Native.Nat.{ℕ, _≤_, min};
+ghost use Prim.Native.Nat.{_≤_, min};
 ghost use Rattle.sets.specs.Set.{Has};
 ghost use Rattle.deadlock.specs.Ring.{Next, RingIn};
 ghost use Rattle.deadlock.specs.Steps.{stepOf, goOf, lowOf, onceOf, Filled};
@@ -51,7 +51,7 @@ fn far(next: [u8; 32], named: u32, from: usize) -> usize
     ensures { λ r. ⌜ r ≡ goOf next named from 32 ⌝ }
 {
     let mut task = from;
-    for i in 0..32u8 {
+    for step in 0..32u8 {
         task = after(next, named, task);
     }
     task
@@ -69,7 +69,7 @@ fn lowest_on(next: [u8; 32], named: u32, from: usize) -> usize
 {
     let mut task = from;
     let mut low = from;
-    for i in 0..32u8 {
+    for more in 0..32u8 {
         task = after(next, named, task);
         low = lesser(task, low);
     }

@@ -98,12 +98,11 @@ impl Table {
             return self.refused(NOT_SOUND);
         }
         let task = self.lowest_free();
-        let number = task.0;
-        if number >= 32 {
+        if task.0 >= 32 {
             return self.refused(NONE_FREE);
         }
         let next = self.with_state(task, State::Running);
-        next.called(DONE, number)
+        next.called(DONE, task.0)
     }
 
     pub fn end_task(self, task: TaskNo) -> Called
@@ -126,13 +125,12 @@ impl Table {
             return self.refused(refusal);
         }
         let phaser = self.lowest_unopened();
-        let number = phaser.0;
-        if number >= 16 {
+        if phaser.0 >= 16 {
             return self.refused(NONE_FREE);
         }
         let opened = self.with_open(phaser, true);
         let next = opened.with_entry(task, phaser, true, Phase(0));
-        next.called(DONE, number)
+        next.called(DONE, phaser.0)
     }
 
     pub fn close_phaser(self, phaser: PhaserNo) -> Called
@@ -177,9 +175,9 @@ impl Table {
             return self.refused(refusal);
         }
         let phase = self.phase_at(task, phaser);
-        let reached = phase.0 + 1;
-        let next = self.with_entry(task, phaser, true, Phase(reached));
-        next.called(DONE, reached as u64)
+        let higher = phase.0 + 1;
+        let next = self.with_entry(task, phaser, true, Phase(higher));
+        next.called(DONE, higher as u64)
     }
 
     // What both waits do: pass, or block the caller on the event.

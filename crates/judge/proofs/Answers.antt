@@ -12,6 +12,7 @@ use Rattle.sets.proofs.Sizes.{ones-size}
 use Rattle.deadlock.specs.Waiting.{TaskNamed, Stuck}
 use Rattle.deadlock.specs.Ring.{DeadEnd, Comes, nobody, round, stops, RingIn}
 use Rattle.deadlock.specs.declared.ring.Round.{Round}
+use Rattle.deadlock.proofs.Walks.{first}
 use Rattle.hall.specs.Answers.{done, notSound}
 use Rattle.hall.specs.Sound.{soundOf}
 use Rattle.hall.specs.Waiting.{BlockedOn, Impedes}
@@ -19,6 +20,8 @@ use Rattle.hall.specs.declared.table.Table.{Table}
 use Rattle.judge.specs.Routes.{TaskRoute}
 use Rattle.judge.specs.Verdict.{noStep, noRoute, ImpedesTask, verdictOf, Found, Judged}
 use Rattle.judge.specs.declared.verdict.Verdict.{Verdict}
+use Rattle.judge.proofs.States.{blocked-lt}
+use Rattle.judge.proofs.Sets.{members-fit}
 use Rattle.judge.proofs.Named.{task-stuck, by-route, named-impeded}
 
 -- ---- the ring walk always finds a task to step to
@@ -41,15 +44,17 @@ module _ (t : Table) where
   pub never-ends : DeadEnd (TaskNamed (BlockedOn t) (Impedes t)) (ImpedesTask t) → ⊥
   never-ends = no-end _ _ (named-impeded t)
 
-  -- ---- answer 0: the mask is of those whom some totally deadlocked set holds, the count is theirs, and the ring is document 01's
+  -- ---- answer 0: the mask is of those whom some totally deadlocked set holds, the count is theirs, also as `count_ones` counts, and the ring is
+  -- document 01's
   pub record Holds (v : Verdict) : Type 1 where
     pub answer : v .answer ≡ done
     pub stuck : (k : ℕ) → Has (v .named) k ↔ Stuck (BlockedOn t) (Impedes t) k
     pub count : v .count ≡ size (v .named) 32
+    pub count-ones : v .count ≡ ones (v .named)
     pub ring : RingIn (Has (v .named)) (ImpedesTask t) (record { closed = true; length = v .length; tasks = v .ring })
 
   found-holds : (route : ℕ) (v : Verdict) → route ≤ 1 → Found t route v → Holds v
-  found-holds route v l x = subst Holds (sym (x .verdict ∙ ap (verdictOf (x .named)) shut)) (record { answer = refl; stuck = task-stuck t (x .named) named; count = refl; ring = subst (RingIn (Has (x .named)) (ImpedesTask t)) shut (x .ring) })
+  found-holds route v l x = subst Holds (sym (x .verdict ∙ ap (verdictOf (x .named)) shut)) holds
     where
       named : TaskRoute t (x .named)
       named = by-route t route (x .named) l (x .by-tasks) (x .by-events)
@@ -60,13 +65,21 @@ module _ (t : Table) where
       shut : x .round ≡ record { closed = true; length = x .round .length; tasks = x .round .tasks }
       shut = ap (λ b. record { closed = b; length = x .round .length; tasks = x .round .tasks }) (always-closed _ _ next (x .round) (x .ring))
 
+      fits : x .named < 2 ^ 32
+      fits = members-fit 32 (x .named) (λ k h. let e = first (named .iff k .0 h) in blocked-lt t k (e .event) (e .waits))
+
+      holds : Holds (verdictOf (x .named) (record { closed = true; length = x .round .length; tasks = x .round .tasks }))
+      holds = record {
+        answer = refl;
+        stuck = task-stuck t (x .named) named;
+        count = refl;
+        count-ones = sym (ones-size 32 (x .named) fits);
+        ring = subst (RingIn (Has (x .named)) (ImpedesTask t)) shut (x .ring);
+      }
+
   module _ (route : ℕ) (v : Verdict) (j : Judged t route v) where
     pub judged-holds : route ≤ 1 → soundOf t ≡ true → Holds v
     judged-holds l s = found-holds route v l (j .found l s)
-
-    -- `count_ones`, where the mask fits its type
-    pub count-ones : v .named < 2 ^ 32 → route ≤ 1 → soundOf t ≡ true → v .count ≡ ones (v .named)
-    count-ones f l s = judged-holds l s .count ∙ sym (ones-size 32 (v .named) f)
 
     -- ---- each answer, by the three cases
     data Case : Type 1 where

@@ -7,3 +7,5 @@ pub mod Named
 pub mod One
 pub mod Answers
 pub mod Verdicts
+pub mod Twins
+pub mod Bench

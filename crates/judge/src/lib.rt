@@ -1,8 +1,8 @@
 pub mod agreement;
-pub mod edges;
+mod edges;
 pub mod event_route;
 pub mod judge;
-pub mod reading;
-pub mod ring;
+mod reading;
+mod ring;
 pub mod task_route;
 pub mod verdict;

@@ -4,25 +4,13 @@ use hall::table::PhaserNo;
 use hall::table::State;
 use hall::table::Table;
 use hall::table::Task;
+use hall::waiting::behind;
 ghost use mathlib.Core.Path.{_≡_};
 ghost use mathlib.Core.Bool.{true};
 ghost use mathlib.Core.Logic.{_↔_};
 ghost use Prim.Native.Nat.{ℕ, _%_};
 ghost use Rattle.sets.specs.Set.{Has};
-ghost use Rattle.hall.specs.Table.{isBlocked};
 ghost use Rattle.judge.specs.Loops.{Blockeds, awaitsOf, eventOf, sameOf, slow};
-
-// Whether the task is blocked.
-pub fn is_blocked(task: Task) -> bool
-    ensures { λ r. ⌜ r ≡ isBlocked (task .state) ⌝ }
-{
-    let state = task.state;
-    match state {
-        State::Blocked(_) => true,
-        State::Running => false,
-        State::Free => false,
-    }
-}
 
 // The event that the task awaits; where it awaits none, one of no phaser, which nobody impedes.
 pub fn event_of(task: Task) -> Event
@@ -76,10 +64,9 @@ pub fn column(event: Event) -> usize
 pub fn impedes(member: bool, phase: Phase, event: Event) -> bool
     ensures { λ r. ⌜ r ≡ slow member phase event ⌝ }
 {
-    let at = phase.0;
     let p = event.phaser.0;
-    let n = event.phase.0;
-    (p < 16) & (member & (at < n))
+    let awaited = event.phase;
+    (p < 16) & behind(member, phase, awaited)
 }
 
 // The set without the task, unless it stays.
@@ -98,7 +85,8 @@ pub fn blocked(table: Table) -> u32
     while left != 0 {
         let t = sets::lowest(left);
         let task = table.tasks[t];
-        set = kept(set, t, is_blocked(task));
+        let state = task.state;
+        set = kept(set, t, state.is_blocked());
         left = sets::take(left, t);
     }
     set

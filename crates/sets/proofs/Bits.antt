@@ -1,10 +1,10 @@
 -- One bit of a number, by recursion on its place: what the laws of sets rest on.
 use mathlib.Core.Path.{_≡_, refl, sym, ap, _∙_}
 use Prim.Native.Nat.{ℕ, zero, suc, _+_, _-_, _*_, _/_, _%_, _^_, _≤_, _<_, min, max}
-use native.Mathlib.Nat.{pow-suc, mod-lt, one-mul, zero-add}
+use native.Mathlib.Nat.{pow-suc, mod-lt, one-mul}
 use native.Mathlib.Numerals.{one-add}
 use native.Mathlib.Omega.{arith}
-use lib.Pow.{shr-shr, pow-pos, shl-exact}
+use lib.Pow.{shr-shr, shl-exact}
 use lib.Bits.{bitAnd, bitOr, and-shr, or-shr, and-step, or-step, and-le-l}
 use Rattle.sets.specs.Set.{bit}
 
@@ -71,15 +71,6 @@ bit-power-other zero zero n = absurd (n refl)
 bit-power-other zero (suc j) n = bit-suc 1 j ∙ bit-high zero 0 j (omega arith) (omega arith)
 bit-power-other (suc k) zero n = rw pow-suc (omega arith)
 bit-power-other (suc k) (suc j) n = let d : 2 ^ k * 2 / 2 ≡ 2 ^ k = omega arith in bit-suc (2 ^ suc k) j ∙ rw (pow-suc, d) (bit-power-other k j (λ e. n (ap suc e)))
-
--- the greatest number below 2 ^ n has every bit below n
-pub bit-full : (n k : ℕ) → k < n → bit (2 ^ n - 1) k ≡ 1
-bit-full zero k h = absurd (omega arith)
-bit-full (suc n) zero h = let p = pow-pos n in rw (pow-suc 2 n) (omega arith)
-bit-full (suc n) (suc k) h =
-    let p = pow-pos n in
-    let d : (2 ^ n * 2 - 1) / 2 ≡ 2 ^ n - 1 = omega arith in
-    bit-suc (2 ^ suc n - 1) k ∙ rw (pow-suc 2 n, d) (bit-full n k (omega arith))
 
 -- a number with bit k is no less than 2 ^ k
 pub bit-le : (m k : ℕ) → bit m k ≡ 1 → 2 ^ k ≤ m

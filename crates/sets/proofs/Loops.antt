@@ -1,7 +1,7 @@
 -- Loops over a set that take the lowest task out of what is left, and loops that put a set together: what each knows, its start, its steps, its end.
-use mathlib.Core.Path.{_≡_, refl, sym, subst}
+use mathlib.Core.Path.{_≡_, sym, subst}
 use mathlib.Core.Logic.{_↔_, _⊎_, inl, inr, ⊎-elim}
-use Prim.Native.Nat.{ℕ, zero, suc, _+_, _≤_, _<_}
+use Prim.Native.Nat.{ℕ, _+_, _<_}
 use native.Mathlib.Decide.{ℕ-discrete}
 use native.Mathlib.Omega.{arith}
 use Rattle.sets.specs.Set.{Has, Least}
@@ -18,16 +18,19 @@ module _ (P : ℕ → Type 0) where
   sift-start among = record { inside = λ k h. h; keeps = λ k h p. h; seen = λ k h n. absurd (n h) }
 
   module _ (among kept left t rest : ℕ) (g : Sifted among kept left) (taken : Taken left t rest) where
+    -- `less` is `kept`, without t unless P holds of it
+    pub sift-more : (less : ℕ) → ((k : ℕ) → Has less k ↔ (Has kept k × (k ≡ t → P t))) → Sifted among less rest
+    sift-more less out = record {
+      inside = λ k h. g .inside k (out k .0 h .0);
+      keeps = λ k h p. out k .1 (g .keeps k h p, λ e. subst P e p);
+      seen = λ k h n. ⊎-elim (λ e. subst P (sym e) (out k .0 h .1 e)) (g .seen k (out k .0 h .0)) (taken-out left t rest k taken n);
+    }
+
     pub sift-keep : P t → Sifted among kept rest
-    sift-keep p =
-        record { inside = g .inside; keeps = g .keeps; seen = λ k h n. ⊎-elim (λ e. subst P (sym e) p) (g .seen k h) (taken-out left t rest k taken n) }
+    sift-keep p = sift-more kept (λ k. (λ h. (h, λ e. p), λ h. h .0))
 
     pub sift-drop : (P t → ⊥) → (less : ℕ) → Taken kept t less → Sifted among less rest
-    sift-drop ne less out = record {
-      inside = λ k h. g .inside k (out k .0 h .0);
-      keeps = λ k h p. out k .1 (g .keeps k h p, λ e. ne (subst P e p));
-      seen = λ k h n. ⊎-elim (λ e. absurd (out k .0 h .1 e)) (g .seen k (out k .0 h .0)) (taken-out left t rest k taken n);
-    }
+    sift-drop ne less out = sift-more less (λ k. (λ h. (out k .0 h .0, λ e. absurd (out k .0 h .1 e)), λ h. out k .1 (h .0, λ e. ne (h .1 e))))
 
   pub sift-done : (among kept : ℕ) → Sifted among kept 0 → (k : ℕ) → Has kept k ↔ (Has among k × P k)
   sift-done among kept g k = (λ h. (g .inside k h, g .seen k h (none-has k)), λ h. g .keeps k (h .0) (h .1))

@@ -1,14 +1,14 @@
 -- Sets of tasks by their members.
-use mathlib.Core.Path.{_≡_, refl, sym, ap, _∙_, subst}
+use mathlib.Core.Path.{_≡_, refl, sym, _∙_}
 use mathlib.Core.Logic.{_↔_, _⊎_, inl, inr}
-use Prim.Native.Nat.{ℕ, zero, suc, _+_, _-_, _/_, _%_, _^_, _≤_, _<_, min}
+use Prim.Native.Nat.{ℕ, zero, suc, _+_, _-_, _/_, _*_, _^_, _≤_, _<_, min}
 use native.Mathlib.Nat.{pow-suc}
 use native.Mathlib.Decide.{decLt, ℕ-discrete}
 use native.Mathlib.Omega.{arith}
 use lib.Pow.{pow-pos}
 use lib.Bits.{bitAnd, bitOr}
 use Rattle.sets.specs.Set.{bit, Has}
-use Rattle.sets.proofs.Bits.{bit-suc, bit-zero, bit-two, bit-high, bit-ext, bit-and, bit-or, bit-less, bit-power, bit-power-other, bit-full, bit-le}
+use Rattle.sets.proofs.Bits.{bit-suc, bit-zero, bit-two, bit-high, bit-ext, bit-and, bit-or, bit-less, bit-power, bit-power-other, bit-le}
 
 -- ---- who is in
 pub has-dec : (m k : ℕ) → Dec (Has m k)
@@ -28,8 +28,14 @@ has-pos m k h = let z = bit-le m k h in let p = pow-pos k in omega arith
 pub none-has : (k : ℕ) → Has 0 k → ⊥
 none-has k h = let p = has-pos 0 k h in omega arith
 
+-- the full set has everybody below n
 pub full-has : (n k : ℕ) → k < n → Has (2 ^ n - 1) k
-full-has = bit-full
+full-has zero k h = absurd (omega arith)
+full-has (suc n) zero h = let p = pow-pos n in rw (pow-suc 2 n) (omega arith)
+full-has (suc n) (suc k) h =
+    let p = pow-pos n in
+    let d : (2 ^ n * 2 - 1) / 2 ≡ 2 ^ n - 1 = omega arith in
+    bit-suc (2 ^ suc n - 1) k ∙ rw (pow-suc 2 n, d) (full-has n k (omega arith))
 
 -- a set that is not 0 has a member
 pub some-has : (n m : ℕ) → m < 2 ^ n → 0 < m → (k : ℕ) × Has m k

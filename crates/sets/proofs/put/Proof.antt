@@ -1,4 +1,4 @@
-use mathlib.Core.Logic.{_⊎_, inl, inr, ⊎-elim}
+use mathlib.Core.Logic.{inl, inr, ⊎-elim}
 use Rattle.sets.proofs.Members.{or-iff}
 use Rattle.sets.proofs.put.Statement.{statement}
 use Rattle.sets.proofs.put.Tie as tie

@@ -1,9 +1,8 @@
 -- The invariant: everybody with an endless walk is left, and all below `task` that are left have an edge into what is left.
 use mathlib.Core.Bool.{true≢false}
 use mathlib.Core.Path.{_≡_, sym, _∙_}
-use Prim.Native.Nat.{_+_, _-_, _*_}
+use Prim.Native.Nat.{_+_, _-_, _*_, _<_}
 use native.Mathlib.Omega.{arith}
-use borrow.Author.Needs.{needs}
 use Rattle.sets.proofs.Members.{taken-lt}
 use Rattle.deadlock.specs.Walk.{Row}
 use Rattle.deadlock.proofs.Clearing.{Clearing, clear-pass, clear-done, rows-start, rows-drop, rows-keep}
@@ -44,8 +43,10 @@ loop-less c =
 
 loop-again : tie.Need-loop-again Inv-loop μ-loop
 loop-again c =
-    rows-drop (c .before .before .before .before .before .before .before .args .t1) _ _ _ (c .before .before .before .before .before .before .loop .inv)
-    (c .before .before .before .before .before .loop-test .taken) (c .before .before .common .ensures) (c .before .if2 .taken) _ (c .take .ok) (c .take .ensures)
+    let l = c .before .before .before .before .before .before .loop in
+    let h : l .task < 32 = omega arith in
+    rows-drop (c .before .before .before .before .before .before .before .args .t1) (l .left) (l .task) _ (l .inv) h (c .before .before .common .ensures) (c .before .if2 .taken) _
+    (c .take .ok) (c .take .ensures)
 
 add-task : tie.Need-add-task Inv-loop μ-loop
 add-task c = omega arith
@@ -55,8 +56,9 @@ loop-less-2 c = omega arith
 
 loop-again-2 : tie.Need-loop-again-2 Inv-loop μ-loop
 loop-again-2 c =
-    rows-keep (c .before .before .before .before .before .before .args .t1) _ _ _ (c .before .before .before .before .before .loop .inv)
-    (c .before .before .before .before .loop-test .taken) (c .before .common .ensures) (c .before .common .ok) (c .if2 .left)
+    let l = c .before .before .before .before .before .loop in
+    let h : l .task < 32 = omega arith in
+    rows-keep (c .before .before .before .before .before .before .args .t1) (l .left) (l .task) _ (l .inv) h (c .before .common .ensures) (c .before .common .ok) (c .if2 .left)
 
 add-task-2 : tie.Need-add-task-2 Inv-loop μ-loop
 add-task-2 c = omega arith
@@ -66,8 +68,9 @@ loop-less-3 c = omega arith
 
 loop-again-3 : tie.Need-loop-again-3 Inv-loop μ-loop
 loop-again-3 c =
-    clear-pass (Row (c .before .before .before .before .args .t1)) _ _ (c .before .before .before .loop .inv) (c .before .before .loop-test .taken)
-    (λ h. absurd (true≢false (sym (c .before .has .ensures .1 h) ∙ c .if1 .left)))
+    let l = c .before .before .before .loop in
+    let h : l .task < 32 = omega arith in
+    clear-pass (Row (c .before .before .before .before .args .t1)) (l .left) (l .task) (l .inv) h (λ g. absurd (true≢false (sym (c .before .has .ensures .1 g) ∙ c .if1 .left)))
 
 returns : tie.Need-returns Inv-loop μ-loop
 returns c =

@@ -1,5 +1,5 @@
 use mathlib.Core.Bool.{true≢false}
-use mathlib.Core.Path.{_≡_, sym, _∙_, subst}
+use mathlib.Core.Path.{sym, _∙_, subst}
 use borrow.Author.Needs.{needs}
 use Rattle.sets.specs.Set.{Has}
 use Rattle.deadlock.proofs.Stepping.{step-in, step-out, step-off}

@@ -8,10 +8,10 @@ use Rattle.deadlock.proofs.ring.lowest_on.Statement.{statement}
 use Rattle.deadlock.proofs.ring.lowest_on.Tie as tie
 
 abbrev Inv-loop : tie.InvT-loop
-Inv-loop next named from task₀ low₀ i₀ task low i = (i ≤ 32) × (lowOf next named from from 32 ≡ lowOf next named task low (32 - i))
+Inv-loop next named from task₀ low₀ more₀ task low more = (more ≤ 32) × (lowOf next named from from 32 ≡ lowOf next named task low (32 - more))
 
 abbrev μ-loop : tie.MeasureT-loop
-μ-loop next named from task₀ low₀ i₀ task low i = 32 - i
+μ-loop next named from task₀ low₀ more₀ task low more = 32 - more
 
 loop-holds : tie.Need-loop-holds Inv-loop μ-loop
 loop-holds c = (omega arith, refl)
@@ -22,8 +22,8 @@ after-requires c κs = tt
 lesser-requires : tie.Need-lesser-requires Inv-loop μ-loop
 lesser-requires c κs = tt
 
-add-i : tie.Need-add-i Inv-loop μ-loop
-add-i c = omega arith
+add-more : tie.Need-add-more Inv-loop μ-loop
+add-more c = omega arith
 
 loop-less : tie.Need-loop-less Inv-loop μ-loop
 loop-less c = omega arith
@@ -33,14 +33,14 @@ loop-again c =
     let s = c .before .before .before .before in
     let l = c .before .before .before .loop in (
       omega arith,
-      l .inv .1 ∙ low-turn (s .args .next) (s .args .named) (l .task) (l .low) (l .i) _ _ (c .before .before .loop-test .taken) (c .before .after .ensures) (c .lesser .ensures),
+      l .inv .1 ∙ low-turn (s .args .next) (s .args .named) (l .task) (l .low) (l .more) _ _ (c .before .before .loop-test .taken) (c .before .after .ensures) (c .lesser .ensures),
     )
 
 returns : tie.Need-returns Inv-loop μ-loop
 returns c =
     let s = c .before .before in
     let l = c .before .loop in
-    sym (l .inv .1 ∙ low-end (s .args .next) (s .args .named) (l .task) (l .low) (l .i) (c .loop-test .left))
+    sym (l .inv .1 ∙ low-end (s .args .next) (s .args .named) (l .task) (l .low) (l .more) (c .loop-test .left))
 
 pub lowest-on-spec : {M : Type 1} → statement M
 lowest-on-spec =
@@ -51,7 +51,7 @@ lowest-on-spec =
     loop-holds
     after-requires
     lesser-requires
-    add-i
+    add-more
     loop-less
     loop-again
     returns)

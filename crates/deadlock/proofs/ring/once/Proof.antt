@@ -1,6 +1,6 @@
 -- The invariant: the first i tasks of the way are in their places, the others 255, and what follows from `task` on is still to come.
-use mathlib.Core.Path.{_≡_, refl}
-use Prim.Native.Nat.{_-_}
+use mathlib.Core.Path.{_≡_}
+use Prim.Native.Nat.{_-_, _<_}
 use native.Mathlib.Omega.{arith}
 use Rattle.deadlock.proofs.Stepping.{step-le}
 use Rattle.deadlock.proofs.Turns.{Turning, turn-start, turn-more, turn-back, turn-all}
@@ -20,7 +20,7 @@ cast-tasks : tie.Need-cast-tasks Inv-loop μ-loop
 cast-tasks c = let z = c .before .loop .inv .small in omega arith
 
 array-write-tasks : tie.Need-array-write-tasks Inv-loop μ-loop
-array-write-tasks c = c .loop-test .taken
+array-write-tasks c = omega arith
 
 add-i : tie.Need-add-i Inv-loop μ-loop
 add-i c = omega arith
@@ -34,7 +34,8 @@ cast-t11 c = omega arith
 returns : tie.Need-returns Inv-loop μ-loop
 returns c =
     let l = c .before .before .before .loop in
-    turn-back _ _ _ _ (l .task) (l .i) (l .inv) (c .before .before .loop-test .taken) _ (c .before .after .ensures) (c .if1 .taken)
+    let h : l .i < 32 = omega arith in
+    turn-back _ _ _ _ (l .task) (l .i) (l .inv) h _ (c .before .after .ensures) (c .if1 .taken)
 
 loop-less : tie.Need-loop-less Inv-loop μ-loop
 loop-less c = omega arith
@@ -45,7 +46,8 @@ loop-again c =
     let l = c .before .before .before .loop in
     let e = c .before .after .ensures in
     let z = step-le (s .args .next) (s .args .named) (l .task) (s .fits .named .fits) in
-    turn-more _ _ _ _ (l .task) (l .i) (l .inv) (c .before .before .loop-test .taken) _ e (c .if1 .left) (omega arith)
+    let h : l .i < 32 = omega arith in
+    turn-more _ _ _ _ (l .task) (l .i) (l .inv) h _ e (c .if1 .left) (omega arith)
 
 returns-2 : tie.Need-returns-2 Inv-loop μ-loop
 returns-2 c =

@@ -1,7 +1,6 @@
 use native.Mathlib.Omega.{arith}
 use mathlib.Core.List.{[]}
-use mathlib.Core.Path.{_≡_, refl, sym, _∙_}
-use Prim.Native.Nat.{_≤_}
+use mathlib.Core.Path.{refl}
 use Rattle.deadlock.proofs.Stepping.{low-le}
 use Rattle.deadlock.proofs.Reached.{stops-comes, round-ring}
 use Rattle.deadlock.proofs.ring.ring.Statement.{statement}

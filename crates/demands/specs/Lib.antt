@@ -1,0 +1,4 @@
+pub mod Series
+pub mod Moves
+pub mod Demands
+pub mod OneAnswer
