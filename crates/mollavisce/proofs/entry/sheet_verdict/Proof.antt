@@ -1,11 +1,10 @@
 -- 41, then 40, both with the strip as it was; then the verdict's answer, and its bytes where that is 0.
-use mathlib.Core.Path.{_≡_, refl, ap, sym, _∙_}
-use Prim.Native.Nat.{_≤_, _<_, _^_}
+use mathlib.Core.Path.{refl, sym}
 use native.Mathlib.Omega.{arith}
 use borrow.Author.Needs.{needs}
 use borrow.Author.Tests.{eq-eqb, ne-eqb}
 use Rattle.mollavisce.specs.Strip.{stripAfter}
-use Rattle.mollavisce.proofs.Small.{sheet-small}
+use Rattle.mollavisce.proofs.Fits.{sheet-fits}
 use Rattle.mollavisce.proofs.entry.sheet_verdict.Statement.{statement}
 use Rattle.mollavisce.proofs.entry.sheet_verdict.Tie as tie
 
@@ -37,10 +36,8 @@ returns-3 c = record {
 lay-requires : tie.Need-lay-requires
 lay-requires c κs =
     let v = c .before .before .verdict-of in
-    let fits : v .result .named < 2 ^ 32 = search needs in
-    let route : c .before .before .before .before .before .before .before .args .route ≤ 1 = search needs in
-    let small = sheet-small _ _ (v .result) route fits (v .ensures) (c .before .if3 .left) in
-    (search needs, small .0, small .1)
+    let fits = sheet-fits _ _ (v .result) (v .ensures) (c .before .if3 .left) in
+    (search needs, fits .count, fits .ring-length)
 
 same-length : tie.Need-same-length
 same-length c = search needs
