@@ -3,6 +3,7 @@ use mathlib.Core.Path.{refl, sym}
 use native.Mathlib.Omega.{arith}
 use borrow.Author.Needs.{needs}
 use borrow.Author.Tests.{eq-eqb, ne-eqb}
+use Rattle.hall.specs.Answers.{done}
 use Rattle.mollavisce.specs.Strip.{stripAfter}
 use Rattle.mollavisce.proofs.Fits.{sheet-fits}
 use Rattle.mollavisce.proofs.entry.sheet_verdict.Statement.{statement}
@@ -30,7 +31,7 @@ unfolding stripAfter
 returns-3 c = record {
   no-route = λ l. absurd (omega (arith, l, c .before .before .before .if1 .left));
   short = λ _ l. absurd (omega (arith, l, c .before .before .if2 .left));
-  judged = λ _ _. (c .before .verdict-of .result, c .before .verdict-of .ensures, refl, rw (ne-eqb _ _ (c .if3 .taken)) refl);
+  judged = λ _ _. (c .before .verdict-of .result, c .before .verdict-of .ensures, refl, rw (ne-eqb _ done (c .if3 .taken)) refl);
 }
 
 lay-requires : tie.Need-lay-requires
@@ -50,7 +51,7 @@ returns-4 c =
     record {
       no-route = λ l. absurd (omega (arith, l, c .before .before .before .before .before .before .before .if1 .left));
       short = λ _ l. absurd (omega (arith, l, c .before .before .before .before .before .before .if2 .left));
-      judged = λ _ _. (v .result, v .ensures, sym answered, rw (eq-eqb _ _ answered) (c .before .before .lay .ensures));
+      judged = λ _ _. (v .result, v .ensures, sym answered, rw (eq-eqb _ done answered) (c .before .before .lay .ensures));
     }
 
 pub sheet-verdict-spec : {M : Type 1} → statement M
