@@ -13,6 +13,7 @@ use Rattle.mollavisce.specs.Entry.{SheetJudged, Entered}
 use Rattle.mollavisce.specs.Strip.{stripOf, stripAfter, verdictIn}
 use Rattle.mollavisce.proofs.Entered.{done-reached}
 use Rattle.mollavisce.proofs.Fits.{sheet-fits}
+use Rattle.mollavisce.proofs.One.{sheet-judged-one}
 
 byte : (q : ℕ) → q ≡ q / 256 * 256 + q % 256
 byte q = omega arith
@@ -43,9 +44,13 @@ module _ (v : Verdict) (fits : v .named < 2 ^ 32) (places : length (v .ring) ≡
   read-back strip = rw (eq-eqb (v .answer) done accepted) (strip-read (drop 38 strip))
 
 -- so what a host reads after answer 0 is the verdict of the sheet
-pub entered-read : (sheet : List ℕ) (route : ℕ) (before after : List ℕ) → Entered sheet route before after done → SheetJudged sheet route (verdictIn after)
-entered-read sheet route before after x =
-    let r = done-reached sheet route before after done x refl in
-    let v = r .verdict in
-    let f = sheet-fits sheet route v (r .judged) (sym (r .answers)) in
-    subst (SheetJudged sheet route) (sym (ap verdictIn (r .strip) ∙ read-back v (f .mask) (f .places) (sym (r .answers)) before)) (r .judged)
+module _ (sheet : List ℕ) (route : ℕ) (before after : List ℕ) (x : Entered sheet route before after done) where
+  pub entered-judged : SheetJudged sheet route (verdictIn after)
+  entered-judged =
+      let r = done-reached sheet route before after done x refl in
+      let v = r .verdict in
+      let f = sheet-fits sheet route v (r .judged) (sym (r .answers)) in
+      subst (SheetJudged sheet route) (sym (ap verdictIn (r .strip) ∙ read-back v (f .mask) (f .places) (sym (r .answers)) before)) (r .judged)
+
+  pub entered-read : (v : Verdict) → SheetJudged sheet route v → verdictIn after ≡ v
+  entered-read v j = sheet-judged-one sheet route (verdictIn after) v entered-judged j

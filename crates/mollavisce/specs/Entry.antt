@@ -13,13 +13,13 @@ use Rattle.sheet.specs.Fields.{sheetAt}
 abbrev pub shortStrip : ℕ
 shortStrip = 40
 
--- the route is tested first, then the sheet; then it is the judge's verdict of the table that was read
+-- the verdict of a sheet: 41, then the reader's refusal, "on a refusal the verdict of nobody"; then the judge's verdict of the table that was read
 pub record SheetJudged (sheet : List ℕ) (route : ℕ) (v : Verdict) : Type 0 where
   pub no-route : 1 < route → v ≡ nobody noRoute
   pub refused : route ≤ 1 → (sheetAt sheet .answer ≡ done → ⊥) → v ≡ nobody (sheetAt sheet .answer)
   pub judged : route ≤ 1 → sheetAt sheet .answer ≡ done → Judged (sheetAt sheet .table) route v
 
--- "Tests: 41, 40, then the sheet." The answer, and every byte of the strip after it
+-- "The verdict entry takes a sheet, a route number and a strip .. Tests: 41, 40, then the sheet." The answer, and every byte of the strip after it
 pub record Entered (sheet : List ℕ) (route : ℕ) (before after : List ℕ) (answer : ℕ) : Type 0 where
   pub no-route : 1 < route → (answer ≡ noRoute) × (after ≡ before)
   pub short : route ≤ 1 → length before < 38 → (answer ≡ shortStrip) × (after ≡ before)

@@ -8,19 +8,19 @@ use lib.ListN.{drop, getD, take}
 use Rattle.hall.specs.Answers.{done}
 use Rattle.judge.specs.declared.verdict.Verdict.{Verdict}
 
--- the mask, the count, the ring's length
+-- "the mask of named tasks (four bytes, low first ..); the count; the ring's length"
 abbrev pub headOf : Verdict → List ℕ
 headOf v = v .named % 256 ∷ v .named / 256 % 256 ∷ v .named / 65536 % 256 ∷ v .named / 16777216 % 256 ∷ v .count ∷ v .length ∷ []
 
--- the 38 bytes of a verdict
+-- the 38 bytes of a verdict: then "the ring's task numbers, filled up to 32 places with 255", as a verdict has them
 unfoldable pub stripOf : Verdict → List ℕ
 stripOf v = headOf v ++ v .ring
 
--- the strip after a verdict: on a refusal "exactly as before"
+-- the strip after a verdict: answer 0 writes its first 38 bytes, a refusal leaves it "exactly as before"
 unfoldable pub stripAfter : Verdict → List ℕ → List ℕ
 stripAfter v strip = cond (eqb (v .answer) done) (stripOf v ++ drop 38 strip) strip
 
--- what a host reads in a strip after answer 0
+-- what a host reads in the strip after answer 0, byte by byte (a law has: it is the verdict of the sheet)
 unfoldable pub verdictIn : List ℕ → Verdict
 verdictIn strip = record {
   answer = done;
