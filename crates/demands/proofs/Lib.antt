@@ -6,3 +6,4 @@ pub mod Moves
 pub mod Sheets
 pub mod Demands
 pub mod OneAnswer
+pub mod Bench
