@@ -198,13 +198,18 @@ module _ (t : Table) (z : Shaped t) where
   blocked-impeded a p n c (inl x) e = absurd (omega (arith, e, ap (λ (c : Called). c .answer) (x .1)))
   blocked-impeded a p n c (inr x) e =
       let r = x .2 in
-      let i = unreached-impeded t (event p n) (x .0) in
-      (r .states a ∙ put-here (stateAt t) a (Blocked (event p n)), (i .0, impedes-same t (i .0) (event p n) (c .table) (r .members (i .0) p) (r .phases (i .0) p) ∙ i .1))
+      let i = unreached-impeded t (event p n) (x .0) in (
+        r .states a ∙ put-here (stateAt t) a (Blocked (event p n)),
+        (i .0, impedes-same t (i .0) (event p n) (c .table) (r .members (i .0) p) (r .phases (i .0) p) ∙ i .1),
+      )
 
 -- a state set back to what it was
 back-again : (t : Table) (a : ℕ) (e : Event) → stateAt t a ≡ Running → withState (withState t a (Blocked e)) a Running ≡ t
 unfolding withState stateAt
-back-again t a e r = ap back (set-set (t .tasks) a (record { state = Blocked e }) (record { state = Running }) ∙ (ap (set (t .tasks) a) task ∙ set-getD (t .tasks) a freeTask))
+back-again t a e r =
+    ap back
+    (set-set (t .tasks) a (record { state = Blocked e }) (record { state = Running })
+    ∙ (ap (set (t .tasks) a) task ∙ set-getD (t .tasks) a freeTask))
   where
     back : List Task → Table
     back l = record { tasks = l; opened = t .opened; phases = t .phases; members = t .members }

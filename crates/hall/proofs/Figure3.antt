@@ -214,7 +214,9 @@ module _ (t : Table) (z : Shaped t) (a p : ℕ) where
       let e = unopened-lowest t .0 (h .unopened) in
       record {
         fresh = phaser-absent t (lowestUnopened t) .1 e;
-        next = phasers-opened t (callOf t 2 a p o .table) a (lowestUnopened t) 0 (λ j. empty (h .sound) (lowestUnopened t) e j (memberAt t j (lowestUnopened t)) refl) (open-phaser-changes t z a p o l .reads);
+        next =
+            phasers-opened t (callOf t 2 a p o .table) a (lowestUnopened t) 0
+            (λ j. empty (h .sound) (lowestUnopened t) e j (memberAt t j (lowestUnopened t)) refl) (open-phaser-changes t z a p o l .reads);
       }
     where
       empty : soundOf t ≡ true → (q : ℕ) → openAt t q ≡ false → (j : ℕ) (b : Bool) → memberAt t j q ≡ b → b ≡ false
@@ -238,7 +240,8 @@ module _ (t : Table) (z : Shaped t) (a p : ℕ) where
       back : Caller t a × NewP a q (phasersOf t) M′ × Lowest t q → Steps (callOf t 2 a p o) M′ × (callOf t 2 a p o .value ≡ q)
       back x =
           let e = lowest-unopened t q (phaser-absent t q .0 (x .1 .fresh)) (x .2) in
-          let l = open-phaser-accepted t a p o .1 (record { sound = sound-iff t .1 (x .0 .sound); caller = x .0 .runs; unopened = let b = x .2 .below in omega (arith, e) }) in
+          let low : lowestUnopened t < 16 = omega (arith, e, x .2 .below) in
+          let l = open-phaser-accepted t a p o .1 (record { sound = sound-iff t .1 (x .0 .sound); caller = x .0 .runs; unopened = low }) in
           let n = open-moves o l .next ∙ (ap (λ (k : ℕ). put (phasersOf t) k (some (put (λ u. none) a (some 0)))) e ∙ sym (x .1 .next)) in
           ((l, n), open-phaser-changes t z a p o l .values ∙ e)
 
@@ -291,12 +294,14 @@ module _ (t : Table) (z : Shaped t) (a p : ℕ) where
 
     pub wait-at-passes : (wait-at .answer ≡ waitPassed) ↔ (Caller t a × AwaitN p n (phasersOf t) × (n ≤ largestPhase))
     wait-at-passes =
-        wait-at-by waitPassed (reachedOf t (event p n) ≡ true) (AwaitN p n (phasersOf t)) (lit< tt) (λ l. waited-passed n (wait-at-changes t z a p n l)) (rule-reached n)
+        wait-at-by waitPassed (reachedOf t (event p n) ≡ true) (AwaitN p n (phasersOf t)) (lit< tt)
+        (λ l. waited-passed n (wait-at-changes t z a p n l)) (rule-reached n)
         (λ w. phaser-opens t p (w .phaser) (w .there) .0)
 
     pub wait-at-blocks : (wait-at .answer ≡ nowBlocked) ↔ (Caller t a × AwaitsN p n (phasersOf t) × (n ≤ largestPhase))
     wait-at-blocks =
-        wait-at-by nowBlocked (reachedOf t (event p n) ≡ false) (AwaitsN p n (phasersOf t)) (lit< tt) (λ l. waited-blocked n (wait-at-changes t z a p n l)) (rule-unreached n)
+        wait-at-by nowBlocked (reachedOf t (event p n) ≡ false) (AwaitsN p n (phasersOf t)) (lit< tt)
+        (λ l. waited-blocked n (wait-at-changes t z a p n l)) (rule-unreached n)
         (λ w. phaser-opens t p (w .phaser) (w .there) .0)
 
   -- 7: wait at own phase is [await]
@@ -325,7 +330,13 @@ module _ (t : Table) (z : Shaped t) (a p : ℕ) where
         wait-by waitPassed (reachedOf t (event p (phaseAt t a p)) ≡ true) (AwaitOwn a p (phasersOf t)) (lit< tt)
         (λ l. waited-passed (phaseAt t a p) (wait-changes t z a p o l))
         (λ e m. (
-          λ r. record { phaser = phaserOf t p; there = phaser-there t p e; phase = phaseAt t a p; caller = member-there t p a m; goes = rule-reached (phaseAt t a p) e .0 r },
+          λ r. record {
+            phaser = phaserOf t p;
+            there = phaser-there t p e;
+            phase = phaseAt t a p;
+            caller = member-there t p a m;
+            goes = rule-reached (phaseAt t a p) e .0 r;
+          },
           λ w. rule-reached (phaseAt t a p) e .1 (subst (λ (n : ℕ). AwaitN p n (phasersOf t)) (sym (member (w .there) (w .caller) .2)) (w .goes)),
         ))
         (λ w. let x = member (w .there) (w .caller) in (x .0, x .1))
@@ -335,7 +346,13 @@ module _ (t : Table) (z : Shaped t) (a p : ℕ) where
         wait-by nowBlocked (reachedOf t (event p (phaseAt t a p)) ≡ false) (AwaitsOwn a p (phasersOf t)) (lit< tt)
         (λ l. waited-blocked (phaseAt t a p) (wait-changes t z a p o l))
         (λ e m. (
-          λ r. record { phaser = phaserOf t p; there = phaser-there t p e; phase = phaseAt t a p; caller = member-there t p a m; waits = rule-unreached (phaseAt t a p) e .0 r },
+          λ r. record {
+            phaser = phaserOf t p;
+            there = phaser-there t p e;
+            phase = phaseAt t a p;
+            caller = member-there t p a m;
+            waits = rule-unreached (phaseAt t a p) e .0 r;
+          },
           λ w. rule-unreached (phaseAt t a p) e .1 (subst (λ (n : ℕ). AwaitsN p n (phasersOf t)) (sym (member (w .there) (w .caller) .2)) (w .waits)),
         ))
         (λ w. let x = member (w .there) (w .caller) in (x .0, x .1))

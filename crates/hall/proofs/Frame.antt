@@ -45,7 +45,9 @@ module _ (t : Table) (z : Shaped t) (kind a p o : ℕ) where
   pub blocked-stays : (k : ℕ) (e : Event) → BlockedOn t k e → ((kind ≡ 9) × (a ≡ k) → ⊥) → BlockedOn next k e
   blocked-stays k e b =
       next-table (λ n u. ((n ≡ 9) × (a ≡ k) → ⊥) → BlockedOn u k e) t (λ n x. b) kind a p o
-      (λ h x. opens-task t z h .states k ∙ other (lowestFree t) Running (apart t (lowestFree t) k e (free-awake (stateAt t (lowestFree t)) (free-lowest t .0 (h .free))) b))
+      (λ h x.
+      let w = free-awake (stateAt t (lowestFree t)) (free-lowest t .0 (h .free)) in
+      opens-task t z h .states k ∙ other (lowestFree t) Running (apart t (lowestFree t) k e w b))
       (λ h x. ends-task t z a h .states k ∙ own Free (h .caller)) (λ h x. opens-phaser t z a h .states k ∙ b) (λ h x. closes-phaser t z p h .states k ∙ b)
       (λ h x. admits t z a p o h .states k ∙ b) (λ h x. leaves t z a p h .states k ∙ b) (λ h x. arrives t z a p h .states k ∙ b)
       (λ h x. blocks t z a (event p (phaseAt t a p)) (h .caller) .states k ∙ own (Blocked (event p (phaseAt t a p))) (h .caller))

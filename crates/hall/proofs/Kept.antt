@@ -43,7 +43,8 @@ module _ (t : Table) where
 -- ---- the arrays keep their lengths
 pub call-shaped : (t : Table) → Shaped t → (kind a p o : ℕ) → Shaped (callOf t kind a p o .table)
 call-shaped t z kind a p o =
-    next-table (λ n. Shaped) t (λ n. z) kind a p o (λ h. state-shaped t z (lowestFree t) Running) (λ h. state-shaped (withoutEntries t a 16) (row-shaped t z a) a Free)
+    next-table (λ n. Shaped) t (λ n. z) kind a p o (λ h. state-shaped t z (lowestFree t) Running)
+    (λ h. state-shaped (withoutEntries t a 16) (row-shaped t z a) a Free)
     (λ h. entry-shaped (withOpen t (lowestUnopened t) true) (open-shaped t z (lowestUnopened t) true) a (lowestUnopened t) true 0)
     (λ h. open-shaped t z p false) (λ h. entry-shaped t z o p true (phaseAt t a p)) (λ h. entry-shaped t z a p false 0)
     (λ h. entry-shaped t z a p true (phaseAt t a p + 1)) (λ h. state-shaped t z a (Blocked (event p (phaseAt t a p))))
@@ -73,11 +74,14 @@ module _ (t : Table) (z : Shaped t) (s : soundOf t ≡ true) where
   unfolding unused
   phaser-closed p e =
       put-open f p false
-      (λ k m. absurd (clash m (not-true (memberAt t k p) (and-left (not (memberAt t k p)) (not (waitsAt (stateAt t k) p)) (at k (member-below t k p m .0))))))
-      (λ k w. absurd (clash w (not-true (waitsAt (stateAt t k) p) (and-right (not (memberAt t k p)) (not (waitsAt (stateAt t k) p)) (at k (waiting k (stateAt t k) refl w))))))
+      (λ k m. absurd (clash m (at k (member-below t k p m .0) .0))) (λ k w. absurd (clash w (at k (waiting k (stateAt t k) refl w) .1)))
     where
-      at : (k : ℕ) → k < 32 → not (memberAt t k p) && not (waitsAt (stateAt t k) p) ≡ true
-      at k l = every-at (λ k. not (memberAt t k p) && not (waitsAt (stateAt t k) p)) 32 k e l
+      at : (k : ℕ) → k < 32 → (memberAt t k p ≡ false) × (waitsAt (stateAt t k) p ≡ false)
+      at k l =
+          let m = memberAt t k p in
+          let w = waitsAt (stateAt t k) p in
+          let x = every-at (λ k. not (memberAt t k p) && not (waitsAt (stateAt t k) p)) 32 k e l in
+          (not-true m (and-left (not m) (not w) x), not-true w (and-right (not m) (not w) x))
 
       waiting : (k : ℕ) (x : State) → stateAt t k ≡ x → waitsAt x p ≡ true → k < 32
       waiting k Free q w = absurd (clash w refl)

@@ -68,7 +68,11 @@ phasersRead opened member phase p = cond (opened p) (some (phaserRead member pha
 reads-phasers : (t : Table) {state : ℕ → State} {opened : ℕ → Bool} {member : ℕ → ℕ → Bool} {phase : ℕ → ℕ → ℕ} → Reads t state opened member phase
     → phasersOf t ≡ phasersRead opened member phase
 unfolding phasersOf phaserOf
-reads-phasers t {opened} {member} {phase} r = fun-ext (λ p. rw (r .opens p) (ap (λ (P : Phaser). cond {A = Option Phaser} (opened p) (some P) none) (fun-ext (λ u. rw (r .members u p, r .phases u p)))))
+reads-phasers t {opened} {member} {phase} r =
+    fun-ext
+    (λ p.
+    rw (r .opens p)
+    (ap (λ (P : Phaser). cond {A = Option Phaser} (opened p) (some P) none) (fun-ext (λ u. rw (r .members u p, r .phases u p)))))
 
 -- entry (k, p) is written, and p is open
 module _ (opened next : ℕ → Bool) (member : ℕ → ℕ → Bool) (phase : ℕ → ℕ → ℕ) (k p : ℕ) (m : Bool) (n : ℕ) where
@@ -90,7 +94,10 @@ module _ (opened next : ℕ → Bool) (member : ℕ → ℕ → Bool) (phase : �
       away q x u = rw (x, and-false (eqb u k))
 
       go : (q : ℕ) (b : Bool) → eqb q p ≡ b → written q ≡ cond b (some (put P k (cond m (some n) none))) (phasersRead opened member phase q)
-      go q true x = ap written (eqb-true q p x) ∙ (ap (λ (b : Bool). cond {A = Option Phaser} b (some (phaserRead (putAt member k p m) (putAt phase k p n) p)) none) o ∙ ap {B = Option Phaser} some (fun-ext there))
+      go q true x =
+          ap written (eqb-true q p x)
+          ∙ (ap (λ (b : Bool). cond {A = Option Phaser} b (some (phaserRead (putAt member k p m) (putAt phase k p n) p)) none) o
+          ∙ ap {B = Option Phaser} some (fun-ext there))
       go q false x =
           ap (λ (b : Bool). cond {A = Option Phaser} b (some (phaserRead (putAt member k p m) (putAt phase k p n) q)) none) (s q (eqb-false q p x))
           ∙ ap (λ (Q : Phaser). cond {A = Option Phaser} (opened q) (some Q) none) (fun-ext (away q x))

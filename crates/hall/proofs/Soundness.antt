@@ -182,7 +182,8 @@ module _ {state : ℕ → State} {opened : ℕ → Bool} {member : ℕ → ℕ �
       → Fine (put state k s) opened member phase
   put-state k s l o = record { entries = λ j p. at j p (eqb j k) refl; awaits = λ j. await j (eqb j k) }
     where
-      live : (j p : ℕ) (m : Bool) → member j p ≡ m → entrySound m (state j) (opened p) (phase j p) ≡ true → (m ≡ true → isLive s ≡ true) → entrySound m s (opened p) (phase j p) ≡ true
+      live : (j p : ℕ) (m : Bool) → member j p ≡ m → entrySound m (state j) (opened p) (phase j p) ≡ true
+          → (m ≡ true → isLive s ≡ true) → entrySound m s (opened p) (phase j p) ≡ true
       live j p true q e n = simp (n refl, and-right (isLive (state j)) _ e)
       live j p false q e n = e
 
@@ -219,7 +220,8 @@ module _ {state : ℕ → State} {opened : ℕ → Bool} {member : ℕ → ℕ �
       stays q true e i h = h (eqb-true q p e)
       stays q false e i h = i
 
-      at : (k q : ℕ) (b : Bool) → member k q ≡ b → entrySound b (state k) (opened q) (phase k q) ≡ true → entrySound b (state k) (put opened p o q) (phase k q) ≡ true
+      at : (k q : ℕ) (b : Bool) → member k q ≡ b → entrySound b (state k) (opened q) (phase k q) ≡ true
+          → entrySound b (state k) (put opened p o q) (phase k q) ≡ true
       at k q true e h =
           let i = and-right (isLive (state k)) (opened q && leb (phase k q) largestPhase) h in
           let c = stays q (eqb q p) refl (and-left (opened q) (leb (phase k q) largestPhase) i) (λ r. m k (rw r at e)) in

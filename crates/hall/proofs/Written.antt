@@ -87,7 +87,9 @@ module _ {A B : Type 0} (l : List A) (d : A) (g : A → B) (z : B) where
       go : (b : Bool) → entry j q ≡ b
           → cond b (g (getD (set l (k * 16 + p) v) (j * 16 + q) d)) z ≡ cond (eqb j k && eqb q p) (g v) (cond b (g (getD l (j * 16 + q) d)) z)
       go true x =
-          ap g (read-set l (k * 16 + p) v (j * 16 + q) d (omega (arith, e)) ∙ ap (λ (c : Bool). cond c v (getD l (j * 16 + q) d)) (place j q k p (entry-below j q x .1) i))
+          ap g
+          (read-set l (k * 16 + p) v (j * 16 + q) d (omega (arith, e))
+          ∙ ap (λ (c : Bool). cond c v (getD l (j * 16 + q) d)) (place j q k p (entry-below j q x .1) i))
           ∙ pick (eqb j k && eqb q p)
       go false x = rw (outside j q k p h i x)
 
@@ -129,14 +131,17 @@ module _ (t : Table) (z : Shaped t) where
       task : Task
       task = record { state = s }
 
-      pick : (b c : Bool) (j : ℕ) → ltb j 32 ≡ b → eqb j k ≡ c → cond b (cond c task (getD (t .tasks) j freeTask) .state) Free ≡ cond c s (cond b (getD (t .tasks) j freeTask .state) Free)
+      pick : (b c : Bool) (j : ℕ) → ltb j 32 ≡ b → eqb j k ≡ c
+          → cond b (cond c task (getD (t .tasks) j freeTask) .state) Free ≡ cond c s (cond b (getD (t .tasks) j freeTask .state) Free)
       pick true true j e q = refl
       pick true false j e q = refl
       pick false false j e q = refl
       pick false true j e q = absurd (let l = ltb-false j 32 e in let r = eqb-true j k q in omega arith)
 
       states : (j : ℕ) → stateAt (withState t k s) j ≡ put (stateAt t) k s j
-      states j = ap (λ (x : Task). cond (ltb j 32) (x .state) Free) (read-set (t .tasks) k task j freeTask (omega (arith, z .tasks))) ∙ pick (ltb j 32) (eqb j k) j refl refl
+      states j =
+          ap (λ (x : Task). cond (ltb j 32) (x .state) Free) (read-set (t .tasks) k task j freeTask (omega (arith, z .tasks)))
+          ∙ pick (ltb j 32) (eqb j k) j refl refl
 
   -- ---- one entry
   pub entry-shaped : (k p : ℕ) (member : Bool) (n : ℕ) → Shaped (withEntry t k p member n)

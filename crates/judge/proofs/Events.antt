@@ -1,14 +1,13 @@
 -- The event route: events that nobody left impedes are taken out, each with all who await it.
-use mathlib.Core.Path.{_≡_, refl, sym, _∙_, subst}
+use mathlib.Core.Path.{_≡_, sym, _∙_, subst}
 use mathlib.Core.Bool.{true}
 use mathlib.Core.Logic.{_↔_}
-use Prim.Native.Nat.{ℕ, _*_, _+_, _^_, _≤_, _<_}
+use Prim.Native.Nat.{ℕ, _^_, _<_}
 use native.Mathlib.Omega.{arith}
 use lib.ListN.{getD}
 use Rattle.sets.specs.Set.{Has}
 use Rattle.sets.proofs.Members.{Within, has-dec, some-has, none-has, within-lt}
 use Rattle.sets.proofs.Loops.{Sifted, sift-done}
-use Rattle.deadlock.specs.Walk.{EndlessWalk}
 use Rattle.deadlock.specs.Waiting.{EventEdge, EventNamed}
 use Rattle.deadlock.proofs.Walks.{first, rest, follow}
 use Rattle.hall.specs.Table.{freeTask, isBlocked, stateAt}

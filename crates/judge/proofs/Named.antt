@@ -1,7 +1,7 @@
 -- Whom the routes name, in any table: those whom some totally deadlocked set holds, and so the same.
-use mathlib.Core.Path.{_≡_, refl, sym, _∙_, subst}
+use mathlib.Core.Path.{_≡_, refl}
 use mathlib.Core.Logic.{_↔_}
-use Prim.Native.Nat.{ℕ, zero, suc, _≤_, _<_}
+use Prim.Native.Nat.{ℕ, zero, suc, _≤_}
 use native.Mathlib.Omega.{arith}
 use Rattle.sets.specs.Set.{Has}
 use Rattle.deadlock.specs.Waiting.{TaskNamed, EventNamed, Stuck}

@@ -6,7 +6,6 @@ use native.Mathlib.Decide.{decLt}
 use native.Mathlib.Omega.{arith}
 use Rattle.sets.specs.Set.{Has}
 use Rattle.deadlock.specs.Ring.{RingIn}
-use Rattle.deadlock.specs.declared.ring.Round.{Round}
 use Rattle.deadlock.proofs.One.{ring-in-one}
 use Rattle.hall.specs.Sound.{soundOf}
 use Rattle.hall.specs.declared.table.Table.{Table}

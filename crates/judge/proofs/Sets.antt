@@ -2,13 +2,13 @@
 use mathlib.Core.Path.{_≡_, refl, sym, _∙_, subst}
 use mathlib.Core.Bool.{Bool, true, false, cond, true≢false}
 use mathlib.Core.Logic.{_↔_, _⊎_, inl, inr, ⊎-elim}
-use Prim.Native.Nat.{ℕ, zero, suc, _+_, _*_, _/_, _%_, _^_, _≤_, _<_}
+use Prim.Native.Nat.{ℕ, zero, suc, _+_, _/_, _%_, _^_, _≤_, _<_}
 use native.Mathlib.Nat.{mod-lt, pow-suc}
 use native.Mathlib.Numerals.{add-one}
 use native.Mathlib.Omega.{arith}
 use lib.Bits.{bitOr}
 use lib.Pow.{pow-pos, shr-shr, split}
-use Rattle.sets.specs.Set.{Has, Least, LowestOf}
+use Rattle.sets.specs.Set.{Has, LowestOf}
 use Rattle.sets.proofs.Members.{Put, Taken, has-lt, none-zero, or-iff, power-iff, same-set, taken-lt, taken-out}
 use Rattle.sets.proofs.Loops.{Sifted, Built, build-start, build-put, build-skip}
 

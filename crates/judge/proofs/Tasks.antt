@@ -1,15 +1,14 @@
 -- The task route, and the ring: the rows are the edges of document 01.
 use mathlib.Core.Path.{_≡_, refl, sym, _∙_, subst}
-use mathlib.Core.Bool.{true}
 use mathlib.Core.List.{List}
-use mathlib.Core.Logic.{_↔_, _⊎_, inl, inr}
-use Prim.Native.Nat.{ℕ, suc, _+_, _^_, _≤_, _<_}
+use mathlib.Core.Logic.{_⊎_, inl, inr}
+use Prim.Native.Nat.{ℕ, _+_, _^_, _≤_, _<_}
 use native.Mathlib.Decide.{decLt, ℕ-discrete}
 use native.Mathlib.Omega.{arith}
 use lib.ListN.{getD, length, replicate, set, length-set}
 use lib.Seq.{getD-set-same, getD-set-other}
-use Rattle.sets.specs.Set.{Has, Least, LowestOf}
-use Rattle.sets.proofs.Members.{has-lt, has-pos, none-has}
+use Rattle.sets.specs.Set.{Has, LowestOf}
+use Rattle.sets.proofs.Members.{has-lt, has-pos}
 use Rattle.sets.proofs.Least.{least-along}
 use Rattle.deadlock.specs.Walk.{Row, NamedBy}
 use Rattle.deadlock.specs.Waiting.{TaskEdge}

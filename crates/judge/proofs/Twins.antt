@@ -1,16 +1,16 @@
 -- The judge, to compute with.
-use mathlib.Core.Path.{_≡_, refl, sym, ap, _∙_, subst}
-use mathlib.Core.Bool.{Bool, true, false, _&&_, cond, true≢false}
+use mathlib.Core.Path.{_≡_, refl, ap, _∙_}
+use mathlib.Core.Bool.{Bool, true, _&&_, cond}
 use mathlib.Core.List.{List, [], _++_}
 use mathlib.Core.Logic.{_↔_}
-use Prim.Native.Nat.{ℕ, zero, suc, _+_, _-_, _^_, _≤_, _<_}
+use Prim.Native.Nat.{ℕ, _+_, _-_, _^_, _<_}
 use native.Mathlib.Decide.{decLt}
 use native.Mathlib.Nat.{zero-add}
 use native.Mathlib.Omega.{arith}
 use lib.Dec.{ltb}
 use lib.ListN.{getD, length, replicate}
 use borrow.Author.Tests.{lt-ltb, le-ltb}
-use Rattle.sets.specs.Set.{Has, size}
+use Rattle.sets.specs.Set.{Has}
 use Rattle.sets.proofs.Members.{none-has}
 use Rattle.sets.proofs.Least.{least-along}
 use Rattle.deadlock.specs.Walk.{Row, NamedBy}
@@ -21,14 +21,14 @@ use Rattle.deadlock.proofs.Walks.{first, along}
 use Rattle.deadlock.proofs.Found.{places, getD-places}
 use Rattle.deadlock.proofs.Moves.{ring-moves}
 use Rattle.deadlock.proofs.Twins.{namedOf, namedOf-named, ringOf, nextsOf, rows-ring}
-use Rattle.hall.specs.Answers.{done, notSound}
+use Rattle.hall.specs.Answers.{notSound}
 use Rattle.hall.specs.Sound.{soundOf}
 use Rattle.hall.specs.Table.{isBlocked, stateAt}
 use Rattle.hall.specs.Waiting.{BlockedOn, Impedes, impedesOf}
 use Rattle.hall.specs.declared.table.Table.{Table}
 use Rattle.judge.specs.Loops.{eventOf}
 use Rattle.judge.specs.Routes.{TaskRoute}
-use Rattle.judge.specs.Verdict.{noRoute, nobody as nobodyOf, ImpedesTask, verdictOf, Found, Judged}
+use Rattle.judge.specs.Verdict.{noRoute, nobody as nobodyOf, ImpedesTask, verdictOf, Judged}
 use Rattle.judge.specs.declared.verdict.Verdict.{Verdict}
 use Rattle.judge.proofs.States.{and-inv, blocked-inv, blocked-of, blocked-lt, impedes-task}
 use Rattle.judge.proofs.Sets.{maskOf, mask-has, members-fit}

@@ -1,7 +1,7 @@
 -- Document 01, 'The hall sheet': "A judge over a table tests 41, then 44; it hands back what the strip would hold, and on a refusal the verdict of nobody.
 -- In both, 22 is the last test."
 use mathlib.Core.Path.{_≡_}
-use mathlib.Core.Bool.{Bool, true, false, cond}
+use mathlib.Core.Bool.{true, false, cond}
 use Prim.Native.Nat.{ℕ, _<_, _≤_}
 use lib.ListN.{replicate}
 use Rattle.sets.specs.Set.{Has, size}

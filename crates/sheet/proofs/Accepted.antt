@@ -1,31 +1,31 @@
 -- An accepted sheet's table is sound, and the sheet is the sheet of that table.
-use Prim.Native.Nat.{ℕ, zero, suc, _+_, _*_, _≤_, _<_}
+use Prim.Native.Nat.{ℕ, suc, _+_, _≤_, _<_}
 use mathlib.Core.Path.{_≡_, refl, sym, ap, _∙_}
-use mathlib.Core.List.{List, [], _∷_, _++_, append-assoc}
-use mathlib.Core.Bool.{Bool, cond, true, false}
+use mathlib.Core.List.{List, _++_, append-assoc}
+use mathlib.Core.Bool.{Bool, true, false}
 use native.Mathlib.Omega.{arith}
 use lib.Dec.{eqb, ltb}
 use lib.ListN.{length, getD, set, take, replicate, length-set, length-replicate}
 use lib.Seq.{take-all, getD-set-same, getD-set-other}
 use borrow.Author.Tests.{eqb-true, eqb-false, ltb-false, lt-ltb}
-use Rattle.hall.specs.Table.{largestPhase, phase0, event, stateAt, openAt, memberAt, phaseAt, isLive, Shaped}
+use Rattle.hall.specs.Table.{largestPhase, phase0, event, openAt, memberAt, isLive, Shaped}
+use Rattle.hall.specs.Effects.{withState}
 use Rattle.hall.specs.Sound.{Sound}
 use Rattle.hall.specs.declared.table.Event.{Event}
 use Rattle.hall.specs.declared.table.Phase.{Phase}
 use Rattle.hall.specs.declared.table.State.{State}
-use Rattle.hall.specs.declared.table.State.the-variants.{Free, Running, Blocked}
+use Rattle.hall.specs.declared.table.State.the-variants.{Running, Blocked}
 use Rattle.hall.specs.declared.table.Table.{Table}
 use Rattle.sheet.specs.declared.reader.Row.{Row}
 use Rattle.sheet.specs.declared.reader.Entry.{Entry}
 use Rattle.sheet.specs.declared.reader.Head.{Head}
-use Rattle.sheet.specs.Got.{Got, value, refused}
 use Rattle.sheet.specs.Number.{numberBytes}
-use Rattle.sheet.specs.Fields.{Rising, rising, each, openStep, opensAt, countAt, listsAt, headAt, phaseOn, eventAt, blockedAt, stateOn, noRow, withMember, memberStep, rowAt, entryOf, entryOn, entryAt, entered, taskStep, withRow, noTasks, tasksAt, ended, entriesAt, tableAt}
-use Rattle.sheet.specs.Written.{count, gather, listed, stateBytes, memberBytes, taskBytes, liveAt, sheetOf}
-use Rattle.sheet.proofs.Same.{Same, Ok, fine, none, same-onward, same-times, same-if, same-weaker}
-use Rattle.sheet.proofs.Numbers.{Bytes, Read, plain-ok, number-ok, rising-ok}
+use Rattle.sheet.specs.Fields.{Rising, rising, each, openStep, opensAt, countAt, listsAt, headAt, phaseOn, eventAt, blockedAt, stateOn, noRow, withMember, memberStep, rowAt, entryOf, entryOn, entryAt, entered, taskStep, withRow, tasksAt, entriesAt, tableAt}
+use Rattle.sheet.specs.Written.{count, listed, stateBytes, memberBytes, taskBytes, liveAt, sheetOf}
+use Rattle.sheet.proofs.Same.{Ok, fine, none, same-onward, same-times, same-if}
+use Rattle.sheet.proofs.Numbers.{Bytes, plain-ok, number-ok, rising-ok}
 use Rattle.sheet.proofs.Gather.{Part, part-start, part-step, part-done, listed-same}
-use Rattle.sheet.proofs.Tables.{true-false, both, getD-all, rowMember, rowPhase, RowSound, Fit, state-here, state-else, member-here, member-else, phase-here, phase-else, entered-shaped, entered-sound, none-live, none-sound, none-shaped}
+use Rattle.sheet.proofs.Tables.{true-false, getD-all, rowMember, rowPhase, RowSound, Fit, state-here, state-else, member-here, member-else, phase-here, phase-else, entered-shaped, entered-sound, none-live, none-sound, none-shaped}
 
 abbrev rowBytes : Row → ℕ → List ℕ
 rowBytes r p = numberBytes p ++ numberBytes (rowPhase r p)
@@ -190,17 +190,23 @@ module _ (s : List ℕ) (eight : Bytes s) where
   module _ (k : ℕ) (x : State) (r : Row) (t : Table) (hk : k < 32) (h : Shaped t) where
     bytes-here : taskBytes (entered (entryOf k x r) t) k ≡ numberBytes k ++ (stateBytes x ++ listed (rowMember r) (rowBytes r) 16)
     bytes-here =
-        rw (state-here k x r t hk h, listed-same (memberAt (entered (entryOf k x r) t) k) (rowMember r) (memberBytes (entered (entryOf k x r) t) k) (rowBytes r) 16
-        (λ p l. member-here k x r t hk h p l) (λ p l m. rw (phase-here k x r t hk h p l)))
+        rw (
+          state-here k x r t hk h,
+          listed-same (memberAt (entered (entryOf k x r) t) k) (rowMember r) (memberBytes (entered (entryOf k x r) t) k) (rowBytes r) 16
+              (λ p l. member-here k x r t hk h p l) (λ p l m. rw (phase-here k x r t hk h p l)),
+        )
 
     bytes-else : (i : ℕ) → ¬ (i ≡ k) → taskBytes (entered (entryOf k x r) t) i ≡ taskBytes t i
     bytes-else i d =
-        rw (state-else k x r t hk h i d, listed-same (memberAt (entered (entryOf k x r) t) i) (memberAt t i) (memberBytes (entered (entryOf k x r) t) i) (memberBytes t i) 16
-        (λ p l. member-else k x r t hk h i p d) (λ p l m. rw (phase-else k x r t hk h i p d)))
+        rw (
+          state-else k x r t hk h i d,
+          listed-same (memberAt (entered (entryOf k x r) t) i) (memberAt t i) (memberBytes (entered (entryOf k x r) t) i) (memberBytes t i) 16
+              (λ p l. member-else k x r t hk h i p d) (λ p l m. rw (phase-else k x r t hk h i p d)),
+        )
 
   task-ok : (opened : List Bool) (w : List ℕ) (n left : ℕ) (r : Rising Table) (at : ℕ) → Entering opened w n (suc left) r at →
       Ok (Entering opened w n left) (taskStep s opened r at)
-  unfolding taskStep withRow
+  unfolding taskStep withRow withState
   task-ok opened w n left r at j =
       same-onward (entry-ok opened (r .floor) at) (λ e next v.
       let k = e .number .0 in

@@ -1,6 +1,6 @@
 -- A number that was read is at most its field's largest value.
 use Prim.Native.Nat.{ℕ, _≤_}
-use mathlib.Core.Path.{_≡_, refl, sym, ap, _∙_}
+use mathlib.Core.Path.{_≡_, refl}
 use mathlib.Core.Bool.{Bool, cond, true, false}
 use mathlib.Core.List.{List}
 use native.Mathlib.Omega.{arith}
@@ -13,7 +13,7 @@ use Rattle.sheet.specs.declared.reader.Entry.{Entry}
 use Rattle.sheet.specs.Got.{Got, value, refused}
 use Rattle.sheet.specs.Number.{plainAt, numberAt, risingAt}
 use Rattle.sheet.specs.Fields.{phaseOn, eventAt, stateOn, rowAt, entryOf, entryOn, entryAt}
-use Rattle.sheet.proofs.Onward.{Came, came}
+use Rattle.sheet.proofs.Onward.{came}
 
 -- where a test let something through, it held
 passed : {A : Type 0} {b : A} {next : ℕ} (test : Bool) (g : Got A) (n : ℕ) → cond test g (refused n) ≡ value b next → (test ≡ true) × (g ≡ value b next)

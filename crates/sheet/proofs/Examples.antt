@@ -1,9 +1,11 @@
 -- Worked examples: document 01's P12, its sheets, and for each refusal a shortest sheet that is given it.
 use Prim.Native.Nat.{ℕ}
 use mathlib.Core.Path.{_≡_, refl}
+use mathlib.Core.Bool.{true}
 use mathlib.Core.List.{List, [], _∷_}
+use Rattle.hall.specs.Effects.{withState}
 use Rattle.hall.specs.Table.{event, stateAt, openAt, memberAt, phaseAt, freshTable}
-use Rattle.hall.specs.declared.table.State.the-variants.{Running, Blocked}
+use Rattle.hall.specs.declared.table.State.the-variants.{Blocked}
 use Rattle.hall.specs.declared.table.Table.{Table}
 use Rattle.sheet.specs.Got.{value, refused}
 use Rattle.sheet.specs.Number.{plainAt, numberAt, risingAt, numberBytes}
@@ -37,8 +39,9 @@ p4 = 1 ∷ 2 ∷ 0 ∷ 1 ∷ 2 ∷ 0 ∷ 1 ∷ 0 ∷ 1 ∷ 2 ∷ 0 ∷ 1 ∷ 1 �
 
 -- P4: task 0 waits (0,1), task 1 waits (1,1); 0: 0@1, 1@0; 1: 0@0, 1@1
 abbrev pub SaysP4 : Table → Type 0
-SaysP4 t = (stateAt t 0 ≡ Blocked (event 0 1)) × (stateAt t 1 ≡ Blocked (event 1 1)) × (phaseAt t 0 0 ≡ 1) × (phaseAt t 1 0 ≡ 0) × (phaseAt t 0 1 ≡ 0) × (phaseAt t 1 1 ≡ 1)
+SaysP4 t =
+    (memberAt t 0 0 ≡ true) × (memberAt t 1 0 ≡ true) × (memberAt t 0 1 ≡ true) × (memberAt t 1 1 ≡ true) × (stateAt t 0 ≡ Blocked (event 0 1)) × (stateAt t 1 ≡ Blocked (event 1 1)) × (phaseAt t 0 0 ≡ 1) × (phaseAt t 1 0 ≡ 0) × (phaseAt t 0 1 ≡ 0) × (phaseAt t 1 1 ≡ 1)
 
 pub p4-read : (sheetAt p4 .answer ≡ 0) × SaysP4 (sheetAt p4 .table) × (sheetOf (sheetAt p4 .table) ≡ p4)
-unfolding sheetAt tableAt headAt listsAt countAt opensAt openStep each entriesAt tasksAt taskStep entryAt entryOn stateOn blockedAt eventAt phaseOn rowAt memberStep plainAt numberAt risingAt withRow laid sheetOf listed numberBytes openAt stateAt memberAt phaseAt
-p4-read = (refl, (refl, refl, refl, refl, refl, refl), refl)
+unfolding sheetAt tableAt headAt listsAt countAt opensAt openStep each entriesAt tasksAt taskStep entryAt entryOn stateOn blockedAt eventAt phaseOn rowAt memberStep plainAt numberAt risingAt withRow withState laid sheetOf listed numberBytes openAt stateAt memberAt phaseAt
+p4-read = (refl, (refl, refl, refl, refl, refl, refl, refl, refl, refl, refl), refl)

@@ -1,13 +1,13 @@
 -- The loop over a number's groups: those that are read stand as a value below a weight, and what follows is carried over them.
 use Prim.Native.Nat.{ℕ, zero, suc, _+_, _-_, _*_, _^_, _≤_, _<_}
-use mathlib.Core.Path.{_≡_, refl, sym, ap, _∙_}
+use mathlib.Core.Path.{_≡_, refl, sym}
 use mathlib.Core.List.{List}
 use mathlib.Core.Bool.{Bool, cond, true, false}
-use native.Mathlib.Nat.{mul-add, add-mul, mul-assoc, mul-comm, add-assoc, mul-le-mul-right}
+use native.Mathlib.Nat.{add-mul, mul-assoc, mul-comm, add-assoc, mul-le-mul-right}
 use native.Mathlib.Omega.{arith}
 use lib.Dec.{eqb}
 use lib.ListN.{length, getD}
-use borrow.Author.Tests.{eqb-false, ne-eqb, eq-eqb, lt-ltb, le-ltb, lt-leb, le-leb}
+use borrow.Author.Tests.{eqb-false, ne-eqb, lt-ltb, le-ltb, lt-leb, le-leb}
 use Rattle.sheet.specs.Answers.{endsInside, needlessGroup, tooLarge}
 use Rattle.sheet.specs.Got.{Got, value, refused, onward}
 use Rattle.sheet.specs.Number.{further, carried, groupsAt}

@@ -2,16 +2,16 @@
 use Prim.Native.Nat.{ℕ, zero, suc, _+_, _-_, _*_, _/_, _%_, _^_, _≤_, _<_}
 use mathlib.Core.Path.{_≡_, refl, sym, ap, _∙_}
 use mathlib.Core.List.{List, [], _∷_, _++_, append-assoc}
-use mathlib.Core.Bool.{Bool, cond, true, false}
+use mathlib.Core.Bool.{Bool, true, false}
 use native.Mathlib.Numerals.{add-one}
 use native.Mathlib.Omega.{arith}
 use lib.ListN.{length, getD, take, drop, length-drop}
 use lib.Seq.{take-suc, drop-drop, getD-drop}
 use lib.Dec.{eqb, ltb, leb}
 use borrow.Author.Tests.{eqb-false, ltb-true, ltb-false, leb-true, leb-false, lt-ltb, le-ltb, lt-leb, le-leb, ne-eqb}
-use Rattle.sheet.specs.Got.{Got, value, refused, onward}
-use Rattle.sheet.specs.Number.{further, carried, groupsAt, plainAt, numberAt, risingAt, groupsOf, numberBytes}
-use Rattle.sheet.proofs.Same.{Same, Ok, fine, none, same-onward, same-if, same-weaker}
+use Rattle.sheet.specs.Got.{value}
+use Rattle.sheet.specs.Number.{further, groupsAt, plainAt, numberAt, risingAt, groupsOf, numberBytes}
+use Rattle.sheet.proofs.Same.{Ok, fine, none, same-onward, same-if, same-weaker}
 
 -- what stands on a sheet are bytes
 abbrev pub Bytes : List ℕ → Type 0

@@ -1,8 +1,14 @@
 -- Going on with what was read.
-use Prim.Native.Nat.{ℕ, zero, suc, _-_, _<_}
+use Prim.Native.Nat.{ℕ, suc, _-_, _<_}
 use mathlib.Core.Path.{_≡_, refl, sym, ap, _∙_}
 use native.Mathlib.Omega.{arith}
 use Rattle.sheet.specs.Got.{Got, value, refused, onward, times}
+use Rattle.sheet.specs.declared.number.Number.{Number}
+use Rattle.sheet.specs.declared.number.Number.the-variants.{Value, Refused as NoNumber}
+use Rattle.sheet.specs.declared.reader.Place.{Place}
+use Rattle.sheet.specs.declared.reader.Place.the-variants.{At, Refused}
+use Rattle.sheet.specs.Number.{outcome}
+use Rattle.sheet.specs.Places.{placed}
 use Rattle.sheet.specs.Fields.{Rising, rising}
 
 -- what was read in the end was read from something
@@ -16,7 +22,22 @@ pub came : {A B : Type 0} {b : B} {next : ℕ} (g : Got A) (k : A → ℕ → Go
 came (value a at) k e = record { it = a; at = at; from = refl; onto = e }
 came (refused n) k e = absurd (let z : _≡_ {A = ℕ} 0 1 = cc in omega arith)
 
--- a rising list of which so many are left to read, from here on
+-- ---- what an answer of the code says
+module _ {g : Got ℕ} {number : Number} (e : outcome number ≡ g) where
+  pub number-read : {v next : ℕ} → number ≡ Value v next → g ≡ value v next
+  number-read h = sym e ∙ ap outcome h
+
+  pub number-refused : {n : ℕ} → number ≡ NoNumber n → g ≡ refused n
+  number-refused h = sym e ∙ ap outcome h
+
+module _ {A : Type 0} {g : Got A} {place : Place} (a : A) (e : placed place a ≡ g) where
+  pub part-read : {next : ℕ} → place ≡ At next → g ≡ value a next
+  part-read h = sym e ∙ ap (λ p. placed p a) h
+
+  pub part-refused : {n : ℕ} → place ≡ Refused n → g ≡ refused n
+  part-refused h = sym e ∙ ap (λ p. placed p a) h
+
+-- ---- a rising list of which so many are left to read, from here on
 unfoldable pub going : {A : Type 0} → (Rising A → ℕ → Got (Rising A)) → ℕ → ℕ → A → ℕ → Got A
 going step left floor a at = onward (times step left (rising floor a) at) (λ r next. value (r .sofar) next)
 

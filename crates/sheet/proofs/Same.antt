@@ -1,6 +1,6 @@
 -- A small logic of readings: both are refused, by the same number from 30 to 36, or both read the same, of which Q holds. One rule for each combinator.
 use Prim.Native.Nat.{ℕ, zero, suc}
-use mathlib.Core.Path.{_≡_, refl, sym, ap, _∙_}
+use mathlib.Core.Path.{_≡_, refl}
 use mathlib.Core.Bool.{Bool, cond, true, false, _&&_}
 use native.Mathlib.Omega.{arith}
 use lib.Dec.{T, leb}

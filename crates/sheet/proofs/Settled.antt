@@ -1,8 +1,8 @@
 -- What is past the longest sheet is not looked at.
 use Prim.Native.Nat.{ℕ, zero, suc, _+_, _*_, _≤_, _<_}
-use mathlib.Core.Path.{_≡_, refl, sym, ap, _∙_}
+use mathlib.Core.Path.{_≡_, refl, sym, _∙_}
 use mathlib.Core.List.{List}
-use mathlib.Core.Bool.{Bool, cond, true, false}
+use mathlib.Core.Bool.{Bool, true, false}
 use native.Mathlib.Omega.{arith}
 use lib.Dec.{eqb, leb, ltb}
 use lib.ListN.{length, getD, take, replicate, length-take}
@@ -11,9 +11,9 @@ use borrow.Author.Tests.{eqb-true, le-leb, lt-leb, leb-true, leb-false, ltb-fals
 use Rattle.hall.specs.Table.{largestPhase}
 use Rattle.hall.specs.declared.table.Table.{Table}
 use Rattle.sheet.specs.declared.reader.Head.{Head}
-use Rattle.sheet.specs.Got.{Got, value, refused}
-use Rattle.sheet.specs.Number.{further, groupsAt, plainAt, numberAt, risingAt, numberBytes}
-use Rattle.sheet.specs.Fields.{Rising, rising, each, openStep, opensAt, countAt, listsAt, headAt, phaseOn, eventAt, blockedAt, stateOn, noRow, memberStep, rowAt, entryOn, entryAt, taskStep, noTasks, tasksAt, ended, entriesAt, tableAt}
+use Rattle.sheet.specs.Got.{value}
+use Rattle.sheet.specs.Number.{further, groupsAt, plainAt, numberAt, risingAt}
+use Rattle.sheet.specs.Fields.{rising, each, openStep, opensAt, countAt, listsAt, headAt, phaseOn, eventAt, blockedAt, stateOn, noRow, memberStep, rowAt, entryOn, entryAt, taskStep, noTasks, tasksAt, entriesAt, tableAt}
 use Rattle.sheet.proofs.Same.{Same, fine, none, same-onward, same-times, same-if, same-equal, same-holds}
 use Rattle.sheet.proofs.Numbers.{Bytes, anyNumber, Read, plain-ok, number-ok, rising-ok, one-byte}
 

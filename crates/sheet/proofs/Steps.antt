@@ -1,6 +1,6 @@
 -- One step of each loop of the reader, and the places of a row in the table.
-use Prim.Native.Nat.{ℕ, zero, suc, _+_, _-_, _*_, _<_}
-use mathlib.Core.Path.{_≡_, refl, sym, ap, _∙_}
+use Prim.Native.Nat.{ℕ, _+_, _-_, _*_, _<_}
+use mathlib.Core.Path.{_≡_, refl}
 use mathlib.Core.Bool.{Bool, true, false}
 use mathlib.Core.List.{List}
 use native.Mathlib.Numerals.{add-one}
@@ -12,7 +12,8 @@ use Rattle.sheet.specs.declared.reader.Row.{Row}
 use Rattle.sheet.specs.declared.reader.Entry.{Entry}
 use Rattle.sheet.specs.declared.reader.Place.{Place}
 use Rattle.sheet.specs.declared.reader.Place.the-variants.{At, Refused}
-use Rattle.sheet.specs.Got.{Got, value, refused, onward, placed}
+use Rattle.sheet.specs.Got.{value, refused, onward}
+use Rattle.sheet.specs.Places.{placed}
 use Rattle.sheet.specs.Number.{risingAt}
 use Rattle.sheet.specs.Fields.{Rising, rising, openStep, eventAt, memberStep, withMember, entryAt, entered, taskStep, laid, withRow}
 use Rattle.sheet.proofs.Onward.{going, going-turn}

@@ -6,20 +6,21 @@ use mathlib.Core.Logic.{⊎-elim}
 use mathlib.Core.Bool.{Bool, cond, true, false, _&&_}
 use native.Mathlib.Nat.{eq-or-lt-of-le}
 use native.Mathlib.Omega.{arith}
-use lib.ListN.{length, getD, set, replicate, length-set, length-replicate, getD-replicate}
+use lib.ListN.{length, getD, replicate, length-set, length-replicate}
 use lib.Seq.{getD-set-same, getD-set-other}
 use lib.Dec.{eqb, ltb}
 use borrow.Author.Tests.{eqb-true, eqb-false, ltb-true, lt-ltb}
 use Rattle.hall.specs.Table.{largestPhase, phase0, freeTask, stateAt, openAt, entry, memberAt, phaseAt, isLive, Shaped}
+use Rattle.hall.specs.Effects.{withState}
 use Rattle.hall.specs.Sound.{Sound}
 use Rattle.hall.specs.declared.table.Event.{Event}
 use Rattle.hall.specs.declared.table.Phase.{Phase}
 use Rattle.hall.specs.declared.table.State.{State}
-use Rattle.hall.specs.declared.table.State.the-variants.{Free, Running, Blocked}
+use Rattle.hall.specs.declared.table.State.the-variants.{Free, Blocked}
 use Rattle.hall.specs.declared.table.Table.{Table}
 use Rattle.hall.specs.declared.table.Task.{Task}
 use Rattle.sheet.specs.declared.reader.Row.{Row}
-use Rattle.sheet.specs.Fields.{laid, withRow, withTask, entryOf, entered, noTasks}
+use Rattle.sheet.specs.Fields.{laid, withRow, entryOf, entered, noTasks}
 
 pub true-false : {A : Type 0} → _≡_ {A = Bool} true false → A
 true-false e = absurd (let w : _≡_ {A = ℕ} 0 1 = cc in omega arith)
@@ -89,23 +90,23 @@ pub record Fit (opened : List Bool) (x : State) : Type 0 where
 
 module _ (k : ℕ) (x : State) (r : Row) (t : Table) (hk : k < 32) (s : Shaped t) where
   pub state-here : stateAt (entered (entryOf k x r) t) k ≡ x
-  unfolding stateAt withRow
+  unfolding stateAt withRow withState
   state-here = rw (lt-ltb k 32 hk) (ap (λ (y : Task). y .state) (getD-set-same (t .tasks) k (record { state = x }) freeTask (omega (arith, s .tasks))))
 
   pub state-else : (i : ℕ) → ¬ (i ≡ k) → stateAt (entered (entryOf k x r) t) i ≡ stateAt t i
-  unfolding stateAt withRow
+  unfolding stateAt withRow withState
   state-else i h = rw (getD-set-other (t .tasks) k i (record { state = x }) freeTask h)
 
   pub member-here : (p : ℕ) → p < 16 → memberAt (entered (entryOf k x r) t) k p ≡ rowMember r p
-  unfolding memberAt withRow
+  unfolding memberAt withRow withState
   member-here p h = rw (entry-in k p hk h) (laid-same false 16 (k * 16) p (r .members) (t .members) h (omega (arith, s .members)))
 
   pub phase-here : (p : ℕ) → p < 16 → phaseAt (entered (entryOf k x r) t) k p ≡ rowPhase r p
-  unfolding phaseAt withRow
+  unfolding phaseAt withRow withState
   phase-here p h = rw (entry-in k p hk h) (ap (λ (y : Phase). y .0) (laid-same phase0 16 (k * 16) p (r .phases) (t .phases) h (omega (arith, s .phases))))
 
   pub member-else : (i p : ℕ) → ¬ (i ≡ k) → memberAt (entered (entryOf k x r) t) i p ≡ memberAt t i p
-  unfolding memberAt withRow
+  unfolding memberAt withRow withState
   member-else i p h = go (entry i p) refl
     where
       go : (b : Bool) → entry i p ≡ b → b && getD (laid false 16 (k * 16) (r .members) (t .members)) (i * 16 + p) false ≡ b && getD (t .members) (i * 16 + p) false
@@ -113,7 +114,7 @@ module _ (k : ℕ) (x : State) (r : Row) (t : Table) (hk : k < 32) (s : Shaped t
       go true e = laid-other false 16 (k * 16) (i * 16 + p) (r .members) (t .members) (λ j l z. h (omega (arith, ltb-true p 16 (both (ltb i 32) (ltb p 16) e .1))))
 
   pub phase-else : (i p : ℕ) → ¬ (i ≡ k) → phaseAt (entered (entryOf k x r) t) i p ≡ phaseAt t i p
-  unfolding phaseAt withRow
+  unfolding phaseAt withRow withState
   phase-else i p h = go (entry i p) refl
     where
       go : (b : Bool) → entry i p ≡ b → cond b (getD (laid phase0 16 (k * 16) (r .phases) (t .phases)) (i * 16 + p) phase0 .0) 0 ≡ cond b (getD (t .phases) (i * 16 + p) phase0 .0) 0
@@ -121,7 +122,7 @@ module _ (k : ℕ) (x : State) (r : Row) (t : Table) (hk : k < 32) (s : Shaped t
       go true e = ap (λ (y : Phase). y .0) (laid-other phase0 16 (k * 16) (i * 16 + p) (r .phases) (t .phases) (λ j l z. h (omega (arith, ltb-true p 16 (both (ltb i 32) (ltb p 16) e .1)))))
 
   pub entered-shaped : Shaped (entered (entryOf k x r) t)
-  unfolding withRow
+  unfolding withRow withState
   entered-shaped = record {
     tasks = simp length-set (s .tasks);
     opened = s .opened;
@@ -134,7 +135,7 @@ module _ (k : ℕ) (x : State) (r : Row) (t : Table) (hk : k < 32) (s : Shaped t
   phase-out p e = rw (lt-ltb k 32 hk, e)
 
   pub entered-sound : Sound t → RowSound (t .opened) r → Fit (t .opened) x → Sound (entered (entryOf k x r) t)
-  unfolding withRow openAt
+  unfolding withRow withState openAt
   entered-sound h row fit = record {
     live = λ i p m. live i p m (eqb i k) refl;
     open-member = λ i p m. open-member i p m (eqb i k) refl;

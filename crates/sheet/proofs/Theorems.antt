@@ -13,13 +13,13 @@ use Rattle.hall.specs.Sound.{Sound}
 use Rattle.hall.specs.declared.table.Table.{Table}
 use Rattle.sheet.specs.declared.number.Number.{Number}
 use Rattle.sheet.specs.declared.number.Number.the-variants.{Value, Refused}
-use Rattle.sheet.specs.declared.reader.Sheet.{Sheet}
-use Rattle.sheet.specs.Got.{Got, value, refused, outcome}
+use Rattle.sheet.specs.Got.{Got, value, refused}
+use Rattle.sheet.specs.Number.{outcome}
 use Rattle.sheet.specs.Fields.{tableAt, handed, sheetAt}
 use Rattle.sheet.specs.Written.{sheetOf}
 use Rattle.sheet.proofs.Same.{Same, fine, none, same-holds}
 use Rattle.sheet.proofs.Numbers.{Bytes}
-use Rattle.sheet.proofs.Accepted.{Accepted, accepted}
+use Rattle.sheet.proofs.Accepted.{accepted}
 use Rattle.sheet.proofs.Written.{written}
 use Rattle.sheet.proofs.Settled.{longest, settles}
 

@@ -1,25 +1,22 @@
 -- Reading the sheet of a sound table gives that table.
 use Prim.Native.Nat.{ℕ, zero, suc, _+_, _*_, _≤_, _<_}
-use mathlib.Core.Path.{_≡_, refl, sym, ap, ap₂, _∙_}
-use mathlib.Core.List.{List, [], _∷_, _++_, append-assoc, append-nil}
-use mathlib.Core.Bool.{Bool, cond, true, false}
+use mathlib.Core.Path.{_≡_, refl, sym, ap, _∙_}
+use mathlib.Core.List.{List, [], _++_, append-assoc, append-nil}
+use mathlib.Core.Bool.{Bool, true, false}
 use native.Mathlib.Omega.{arith}
-use lib.Dec.{eqb}
-use lib.ListN.{length, getD, set, take, drop, replicate, length-append, length-replicate, length-drop, length-take, drop-of-length-le}
+use lib.ListN.{length, getD, set, take, drop, replicate, length-append, length-replicate, length-drop, drop-of-length-le}
 use lib.Seq.{take-all, take-suc, drop-cons, drop-drop, drop-append-seam, length-take-le, set-at, getD-take, getD-drop}
 use borrow.Author.Tests.{lt-ltb, le-ltb}
 use Rattle.hall.specs.Table.{largestPhase, phase0, freeTask, event, stateAt, openAt, memberAt, phaseAt, isLive, Shaped}
+use Rattle.hall.specs.Effects.{withState}
 use Rattle.hall.specs.Sound.{Sound}
-use Rattle.hall.specs.declared.table.Event.{Event}
-use Rattle.hall.specs.declared.table.Phase.{Phase}
 use Rattle.hall.specs.declared.table.State.{State}
 use Rattle.hall.specs.declared.table.State.the-variants.{Free, Running, Blocked}
 use Rattle.hall.specs.declared.table.Table.{Table}
-use Rattle.hall.specs.declared.table.Task.{Task}
 use Rattle.sheet.specs.declared.reader.Row.{Row}
 use Rattle.sheet.specs.Got.{Got, value, refused, onward, times}
 use Rattle.sheet.specs.Number.{plainAt, numberAt, numberBytes}
-use Rattle.sheet.specs.Fields.{Rising, rising, each, openStep, opensAt, countAt, listsAt, headAt, phaseOn, eventAt, blockedAt, stateOn, noRow, withMember, memberStep, rowAt, entryOf, entryOn, entryAt, laid, withRow, entered, taskStep, noTasks, tasksAt, ended, entriesAt, tableAt}
+use Rattle.sheet.specs.Fields.{Rising, rising, each, openStep, opensAt, countAt, listsAt, headAt, phaseOn, eventAt, blockedAt, stateOn, noRow, withMember, memberStep, rowAt, entryOf, entryOn, entryAt, laid, withRow, entered, taskStep, noTasks, tasksAt, entriesAt, tableAt}
 use Rattle.sheet.specs.Written.{count, gather, listed, stateBytes, memberBytes, taskBytes, liveAt, sheetOf}
 use Rattle.sheet.proofs.Numbers.{anyNumber, read-plain, read-number, read-rising}
 use Rattle.sheet.proofs.Gather.{count-le}
@@ -259,7 +256,7 @@ module _ (t : Table) (h : Sound t) (sh : Shaped t) (s : List ℕ) where
   all-members = sh .members ∙ sym (length-replicate 512 false)
 
   task-entered : (k : ℕ) (hk : k < 32) → entered (entryOf k (stateAt t k) (row k hk)) (upTo k) ≡ upTo (suc k)
-  unfolding upTo withRow
+  unfolding upTo withRow withState
   task-entered k hk =
       let z : suc k * 16 ≡ k * 16 + 16 = omega arith in
       let x = ap (set (mix k (t .tasks) (replicate 32 freeTask)) k) (sym (state-flat k hk)) ∙ mix-set freeTask (t .tasks) (replicate 32 freeTask) same-tasks k (omega (arith, sh .tasks)) in

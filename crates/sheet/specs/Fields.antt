@@ -4,10 +4,11 @@ use mathlib.Core.List.{List}
 use Prim.Native.Nat.{ℕ, zero, suc, _+_, _*_}
 use lib.Dec.{eqb, ltb}
 use lib.ListN.{getD, set, replicate, length}
+use Rattle.hall.specs.Effects.{withState}
 use Rattle.hall.specs.Table.{largestPhase, phase0, freeTask, event, freshTable}
 use Rattle.hall.specs.declared.table.Event.{Event}
 use Rattle.hall.specs.declared.table.State.{State}
-use Rattle.hall.specs.declared.table.State.the-variants.{Free, Running, Blocked}
+use Rattle.hall.specs.declared.table.State.the-variants.{Running, Blocked}
 use Rattle.hall.specs.declared.table.Table.{Table}
 use Rattle.sheet.specs.declared.reader.Row.{Row}
 use Rattle.sheet.specs.declared.reader.Entry.{Entry}
@@ -106,11 +107,8 @@ withRow n k r t = record {
   members = laid false n (k * 16) (r .members) (t .members);
 }
 
-abbrev pub withTask : ℕ → State → Table → Table
-withTask k x t = record { tasks = set (t .tasks) k (record { state = x }); opened = t .opened; phases = t .phases; members = t .members }
-
 abbrev pub entered : Entry → Table → Table
-entered e t = withRow 16 (e .number .0) (e .row) (withTask (e .number .0) (e .state) t)
+entered e t = withRow 16 (e .number .0) (e .row) (withState t (e .number .0) (e .state))
 
 unfoldable pub taskStep : List ℕ → List Bool → Rising Table → ℕ → Got (Rising Table)
 taskStep s opened r at =

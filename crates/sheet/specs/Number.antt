@@ -1,11 +1,18 @@
 -- Document 01, 'The hall sheet': "A number is groups of seven bits, low group first; the top bit of a byte says that another group follows."
-use mathlib.Core.Bool.{Bool, cond}
+use mathlib.Core.Bool.{cond}
 use mathlib.Core.List.{List, [], _∷_}
 use Prim.Native.Nat.{ℕ, zero, suc, _+_, _-_, _*_, _/_, _%_}
 use lib.Dec.{ltb, leb, eqb}
 use lib.ListN.{length, getD}
 use Rattle.sheet.specs.Answers.{endsInside, needlessGroup, tooLarge, notRising}
+use Rattle.sheet.specs.declared.number.Number.{Number}
+use Rattle.sheet.specs.declared.number.Number.the-variants.{Value, Refused}
 use Rattle.sheet.specs.Got.{Got, value, refused, onward}
+
+-- "Reading a number answers either its value and the next place, or its refusal": the two cases of the code's enum
+abbrev pub outcome : Number → Got ℕ
+outcome (Value v next) = value v next
+outcome (Refused n) = refused n
 
 -- "At most three groups": so many may follow the first
 abbrev pub further : ℕ

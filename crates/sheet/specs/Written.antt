@@ -1,6 +1,6 @@
 -- Document 01, 'The hall sheet', "Fields": the sheet of a table, field by field.
 use mathlib.Core.Bool.{Bool, cond}
-use mathlib.Core.List.{List, [], _∷_, _++_}
+use mathlib.Core.List.{List, [], _++_}
 use Prim.Native.Nat.{ℕ, zero, suc, _+_}
 use Rattle.hall.specs.Table.{stateAt, openAt, memberAt, phaseAt, isLive}
 use Rattle.hall.specs.declared.table.State.{State}

@@ -1,8 +1,7 @@
 // A number of the hall sheet: groups of seven bits, low group first.
 ghost use mathlib.Core.Path.{_≡_};
 ghost use Prim.Native.Nat.{_<_};
-ghost use Rattle.sheet.specs.Got.{outcome};
-ghost use Rattle.sheet.specs.Number.{further, carried, groupsAt, plainAt, numberAt, risingAt};
+ghost use Rattle.sheet.specs.Number.{outcome, further, carried, groupsAt, plainAt, numberAt, risingAt};
 use crate::answers::ENDS_INSIDE;
 use crate::answers::NEEDLESS_GROUP;
 use crate::answers::NOT_RISING;

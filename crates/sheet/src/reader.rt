@@ -2,8 +2,8 @@
 ghost use mathlib.Core.Path.{_≡_};
 ghost use lib.ListN.{replicate};
 ghost use mathlib.Core.Bool.{false};
-ghost use Rattle.sheet.specs.Got.{placed, placeAfter, refusalOf};
-ghost use Rattle.sheet.specs.Fields.{each, openStep, opensAt, countAt, listsAt, headAt, phaseOn, eventAt, blockedAt, stateOn, memberStep, noRow, rowAt, entryOn, entryAt, entriesAt, handed, sheetAt, refusedBy};
+ghost use Rattle.sheet.specs.Places.{placed, placeAfter, refusalOf};
+ghost use Rattle.sheet.specs.Fields.{each, openStep, opensAt, countAt, listsAt, headAt, phaseOn, eventAt, blockedAt, stateOn, memberStep, noRow, rowAt, entryOn, entryAt, noTasks, entriesAt, handed, sheetAt, refusedBy};
 use crate::answers::BYTES_AFTER;
 use crate::answers::NOT_OPEN;
 use crate::answers::UNKNOWN;
@@ -169,7 +169,7 @@ fn no_event(place: Place) -> ReadEvent
 }
 
 // The phase, the phaser being read.
-fn phase_at(sheet: &[u8], phaser: PhaserNo, at: usize) -> ReadEvent
+fn phase_on(sheet: &[u8], phaser: PhaserNo, at: usize) -> ReadEvent
     ensures { λ r. ⌜ placed (r .place) (r .event) ≡ phaseOn (now (sheet .entry)) (phaser .0) at ⌝ }
 {
     let number = number::read(sheet, LARGEST_PHASE as u64, at);
@@ -195,7 +195,7 @@ fn event_at(sheet: &[u8], opened: &[bool; 16], floor: u64, at: usize) -> ReadEve
     };
     let i = phaser as usize;
     if opened[i] {
-        phase_at(sheet, PhaserNo(phaser), next)
+        phase_on(sheet, PhaserNo(phaser), next)
     } else {
         no_event(Place::Refused(NOT_OPEN))
     }
@@ -220,7 +220,7 @@ fn blocked_at(sheet: &[u8], opened: &[bool; 16], at: usize) -> ReadState
     }
 }
 
-fn state_at(sheet: &[u8], opened: &[bool; 16], at: usize) -> ReadState
+fn state_on(sheet: &[u8], opened: &[bool; 16], at: usize) -> ReadState
     ensures { λ r. ⌜ placed (r .place) (r .state) ≡ stateOn (now (sheet .entry)) (now (opened .entry)) at ⌝ }
 {
     let number = number::plain(sheet, at);
@@ -335,10 +335,10 @@ fn no_entry(place: Place) -> ReadEntry
 }
 
 // State and memberships, the number being read.
-fn entry_in(sheet: &[u8], opened: &[bool; 16], number: TaskNo, at: usize) -> ReadEntry
+fn entry_on(sheet: &[u8], opened: &[bool; 16], number: TaskNo, at: usize) -> ReadEntry
     ensures { λ r. ⌜ placed (r .place) (r .entry) ≡ entryOn (now (sheet .entry)) (now (opened .entry)) (number .0) at ⌝ }
 {
-    let stated = state_at(sheet, opened, at);
+    let stated = state_on(sheet, opened, at);
     let place = stated.place;
     let Place::At(second) = place else {
         return no_entry(place);
@@ -355,10 +355,23 @@ fn entry_at(sheet: &[u8], opened: &[bool; 16], floor: u64, at: usize) -> ReadEnt
     ensures { λ r. ⌜ placed (r .place) (r .entry) ≡ entryAt (now (sheet .entry)) (now (opened .entry)) floor at ⌝ }
 {
     let number = number::rising(sheet, 31, floor, at);
-    let Number::Value(k, next) = number else {
+    let Number::Value(task, next) = number else {
         return no_entry(after(number));
     };
-    entry_in(sheet, opened, TaskNo(k), next)
+    entry_on(sheet, opened, TaskNo(task), next)
+}
+
+// These phasers are open, and there is no task.
+fn no_tasks(opened: [bool; 16]) -> Table
+    ensures { λ r. ⌜ r ≡ noTasks opened ⌝ }
+{
+    let free = Task { state: State::Free };
+    Table {
+        tasks: [free; 32],
+        opened,
+        phases: [Phase(0); 512],
+        members: [false; 512],
+    }
 }
 
 // What the reader hands back: 0 and the table, or the refusal and a fresh table.
@@ -370,13 +383,7 @@ pub struct Sheet {
 fn refused(answer: u32) -> Sheet
     ensures { λ r. ⌜ r ≡ refusedBy answer ⌝ }
 {
-    let free = Task { state: State::Free };
-    let table = Table {
-        tasks: [free; 32],
-        opened: [false; 16],
-        phases: [Phase(0); 512],
-        members: [false; 512],
-    };
+    let table = no_tasks([false; 16]);
     Sheet { answer, table }
 }
 
@@ -385,13 +392,7 @@ fn entries(sheet: &[u8], head: Head, first: usize) -> Sheet
     ensures { λ r. ⌜ r ≡ handed (entriesAt (now (sheet .entry)) head first) ⌝ }
 {
     let opened = head.opened;
-    let free = Task { state: State::Free };
-    let mut table = Table {
-        tasks: [free; 32],
-        opened,
-        phases: [Phase(0); 512],
-        members: [false; 512],
-    };
+    let mut table = no_tasks(opened);
     let mut floor: u64 = 0;
     let mut at = first;
     let mut left = head.count;

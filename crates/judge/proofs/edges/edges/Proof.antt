@@ -1,5 +1,4 @@
 -- The invariants: outside, the rows of those that are not in `todo` are filled; inside, of those that were looked at, the ones that impede are kept.
-use mathlib.Core.Path.{_≡_}
 use Prim.Native.Nat.{_^_, _<_}
 use native.Mathlib.Omega.{arith}
 use Rattle.hall.specs.Waiting.{Impedes}

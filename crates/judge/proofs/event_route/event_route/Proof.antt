@@ -1,5 +1,4 @@
 -- The invariants: outside, `Searched`; inside, of those that were looked at, the ones that impede the event are kept, and the ones that await it.
-use mathlib.Core.Path.{_≡_, refl, sym, ap, _∙_}
 use Prim.Native.Nat.{_+_, _*_, _^_, _<_}
 use native.Mathlib.Omega.{arith}
 use Rattle.hall.specs.Waiting.{BlockedOn, Impedes}

@@ -1,5 +1,4 @@
 -- The invariant: those below t are filled in.
-use mathlib.Core.Path.{_≡_, refl}
 use Prim.Native.Nat.{_-_}
 use native.Mathlib.Omega.{arith}
 use Rattle.judge.proofs.Tasks.{Stepped, step-start, step-more, step-done}

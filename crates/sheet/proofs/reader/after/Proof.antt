@@ -1,8 +1,6 @@
 use borrow.Author.Needs.{needs}
 use Rattle.sheet.proofs.reader.after.Statement.{statement}
 use Rattle.sheet.proofs.reader.after.Tie as tie
-use Rattle.sheet.proofs.reader.after.Reads as reads
-use Rattle.sheet.proofs.reader.after.Lts as lts
 
 enum-known-number : tie.Need-enum-known-number
 enum-known-number c = search needs

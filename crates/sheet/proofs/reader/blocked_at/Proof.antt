@@ -1,5 +1,4 @@
 use borrow.Author.Needs.{needs}
-use mathlib.Core.Path.{sym, ap, _∙_}
 use Rattle.hall.specs.declared.table.State.the-variants.{Blocked}
 use Rattle.sheet.specs.Fields.{blockedAt}
 use Rattle.sheet.proofs.Steps.{made}

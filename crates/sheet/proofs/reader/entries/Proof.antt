@@ -1,11 +1,14 @@
+-- The tasks that are left, read from here on into the table, give what all of them give; in the inner loop the first p places of the row are laid.
 use borrow.Author.Needs.{needs}
 use native.Mathlib.Omega.{arith}
-use mathlib.Core.Path.{_≡_, refl, sym, ap, _∙_}
+use mathlib.Core.Path.{_≡_, ap, _∙_}
 use Prim.Native.Nat.{_-_, _≤_}
 use borrow.Author.Tests.{lt-ltb, le-ltb}
-use Rattle.sheet.specs.Got.{onward, placed, refusalOf}
-use Rattle.sheet.specs.Fields.{rising, each, taskStep, tasksAt, entriesAt, ended, handed, refusedBy, withRow}
-use Rattle.sheet.proofs.Onward.{going, going-refused, going-end}
+use Rattle.hall.specs.Effects.{withState}
+use Rattle.sheet.specs.Got.{onward}
+use Rattle.sheet.specs.Places.{refusalOf}
+use Rattle.sheet.specs.Fields.{rising, each, taskStep, tasksAt, noTasks, entriesAt, ended, handed, refusedBy, withRow}
+use Rattle.sheet.proofs.Onward.{part-read, part-refused, going, going-refused, going-end}
 use Rattle.sheet.proofs.Bounds.{entry-bound}
 use Rattle.sheet.proofs.Steps.{task-turn, task-refused, row-none, row-more}
 use Rattle.sheet.proofs.reader.entries.Statement.{statement}
@@ -19,13 +22,16 @@ abbrev μ-loop2 : tie.MeasureT-loop2
 
 abbrev Inv-loop : tie.InvT-loop
 Inv-loop sheet first opened table₀ floor₀ at₀ left₀ table floor at left =
-    going (taskStep sheet opened) left floor table at ≡ going (taskStep sheet opened) left₀ floor₀ table₀ at₀
+    going (taskStep sheet opened) left floor table at ≡ going (taskStep sheet opened) left₀ 0 (noTasks opened) first
 
 abbrev μ-loop : tie.MeasureT-loop
 μ-loop sheet first opened table₀ floor₀ at₀ left₀ table floor at left = left
 
+no-tasks-requires : tie.Need-no-tasks-requires Inv-loop2 μ-loop2 Inv-loop μ-loop
+no-tasks-requires c κs = search needs
+
 loop-holds : tie.Need-loop-holds Inv-loop2 μ-loop2 Inv-loop μ-loop
-loop-holds c = refl
+loop-holds c = rw (c .no-tasks .ensures)
 
 entry-at-requires : tie.Need-entry-at-requires Inv-loop2 μ-loop2 Inv-loop μ-loop
 entry-at-requires c κs = search needs
@@ -46,13 +52,13 @@ returns : tie.Need-returns Inv-loop2 μ-loop2 Inv-loop μ-loop
 unfolding entriesAt tasksAt each going
 returns c =
     c .refused .ensures ∙ ap refusedBy (c .before .refusal .ensures ∙ ap refusalOf (c .before .before .enum-told .given .1))
-    ∙ ap (λ g. handed (onward g (ended (c .before .before .before .before .before .before .before .before .before .before .args .sheet .now)))) (going-refused (taskStep _ _) (c .before .before .before .before .before .before .before .loop .floor) (c .before .before .before .before .before .before .before .loop .table) (c .before .before .before .before .before .before .before .loop .at) (c .before .before .before .before .before .before .before .loop .left) (c .before .before .before .before .before .before .loop-test .taken) (task-refused _ _ (rising (c .before .before .before .before .before .before .before .loop .floor) (c .before .before .before .before .before .before .before .loop .table)) _ (sym (c .before .before .before .before .entry-at .ensures) ∙ ap (λ p. placed p (c .before .before .before .before .entry-at .result .entry)) (c .before .before .enum-told .given .1))) ∙ c .before .before .before .before .before .before .before .loop .inv)
+    ∙ ap (λ g. handed (onward g (ended (c .before .before .before .before .before .before .before .before .before .before .before .args .sheet .now)))) (going-refused (taskStep _ _) (c .before .before .before .before .before .before .before .loop .floor) (c .before .before .before .before .before .before .before .loop .table) (c .before .before .before .before .before .before .before .loop .at) (c .before .before .before .before .before .before .before .loop .left) (c .before .before .before .before .before .before .loop-test .taken) (task-refused _ _ (rising (c .before .before .before .before .before .before .before .loop .floor) (c .before .before .before .before .before .before .before .loop .table)) _ (part-refused _ (c .before .before .before .before .entry-at .ensures) (c .before .before .enum-told .given .1))) ∙ c .before .before .before .before .before .before .before .loop .inv)
 
-mul-t32 : tie.Need-mul-t32 Inv-loop2 μ-loop2 Inv-loop μ-loop
-mul-t32 c = record { fits = omega (arith, entry-bound _ _ _ _ (sym (c .before .before .before .before .entry-at .ensures) ∙ ap (λ p. placed p (c .before .before .before .before .entry-at .result .entry)) (c .before .before .place .given .1))) }
+mul-t27 : tie.Need-mul-t27 Inv-loop2 μ-loop2 Inv-loop μ-loop
+mul-t27 c = record { fits = omega (arith, entry-bound _ _ _ _ (part-read _ (c .before .before .before .before .entry-at .ensures) (c .before .before .place .given .1))) }
 
 element-set-from-table : tie.Need-element-set-from-table Inv-loop2 μ-loop2 Inv-loop μ-loop
-element-set-from-table c = omega (arith, entry-bound _ _ _ _ (sym (c .before .before .before .before .entry-at .ensures) ∙ ap (λ p. placed p (c .before .before .before .before .entry-at .result .entry)) (c .before .before .place .given .1)))
+element-set-from-table c = omega (arith, entry-bound _ _ _ _ (part-read _ (c .before .before .before .before .entry-at .ensures) (c .before .before .place .given .1)))
 
 loop2-holds : tie.Need-loop2-holds Inv-loop2 μ-loop2 Inv-loop μ-loop
 loop2-holds c = (omega arith, row-none _ _ _)
@@ -67,19 +73,19 @@ element-copy-out-member : tie.Need-element-copy-out-member Inv-loop2 μ-loop2 In
 element-copy-out-member c = search needs
 
 mul-i : tie.Need-mul-i Inv-loop2 μ-loop2 Inv-loop μ-loop
-mul-i c = record { fits = omega (arith, entry-bound _ _ _ _ (sym (c .before .before .before .before .before .before .before .before .before .entry-at .ensures) ∙ ap (λ p. placed p (c .before .before .before .before .before .before .before .before .before .entry-at .result .entry)) (c .before .before .before .before .before .before .before .place .given .1))) }
+mul-i c = record { fits = omega (arith, entry-bound _ _ _ _ (part-read _ (c .before .before .before .before .before .before .before .before .before .entry-at .ensures) (c .before .before .before .before .before .before .before .place .given .1))) }
 
 add-i : tie.Need-add-i Inv-loop2 μ-loop2 Inv-loop μ-loop
-add-i c = record { fits = omega (arith, entry-bound _ _ _ _ (sym (c .before .before .before .before .before .before .before .before .before .entry-at .ensures) ∙ ap (λ p. placed p (c .before .before .before .before .before .before .before .before .before .entry-at .result .entry)) (c .before .before .before .before .before .before .before .place .given .1))) }
+add-i c = record { fits = omega (arith, entry-bound _ _ _ _ (part-read _ (c .before .before .before .before .before .before .before .before .before .entry-at .ensures) (c .before .before .before .before .before .before .before .place .given .1))) }
 
 mul-phase-2 : tie.Need-mul-phase-2 Inv-loop2 μ-loop2 Inv-loop μ-loop
-mul-phase-2 c = record { fits = omega (arith, entry-bound _ _ _ _ (sym (c .before .before .before .before .before .before .before .before .before .entry-at .ensures) ∙ ap (λ p. placed p (c .before .before .before .before .before .before .before .before .before .entry-at .result .entry)) (c .before .before .before .before .before .before .before .place .given .1))) }
+mul-phase-2 c = record { fits = omega (arith, entry-bound _ _ _ _ (part-read _ (c .before .before .before .before .before .before .before .before .before .entry-at .ensures) (c .before .before .before .before .before .before .before .place .given .1))) }
 
 element-set-from-phase : tie.Need-element-set-from-phase Inv-loop2 μ-loop2 Inv-loop μ-loop
-element-set-from-phase c = omega (arith, entry-bound _ _ _ _ (sym (c .before .before .before .before .before .before .before .before .before .entry-at .ensures) ∙ ap (λ p. placed p (c .before .before .before .before .before .before .before .before .before .entry-at .result .entry)) (c .before .before .before .before .before .before .before .place .given .1)))
+element-set-from-phase c = omega (arith, entry-bound _ _ _ _ (part-read _ (c .before .before .before .before .before .before .before .before .before .entry-at .ensures) (c .before .before .before .before .before .before .before .place .given .1)))
 
 element-write-table : tie.Need-element-write-table Inv-loop2 μ-loop2 Inv-loop μ-loop
-element-write-table c = omega (arith, entry-bound _ _ _ _ (sym (c .before .before .before .before .before .before .before .before .before .entry-at .ensures) ∙ ap (λ p. placed p (c .before .before .before .before .before .before .before .before .before .entry-at .result .entry)) (c .before .before .before .before .before .before .before .place .given .1)))
+element-write-table c = omega (arith, entry-bound _ _ _ _ (part-read _ (c .before .before .before .before .before .before .before .before .before .entry-at .ensures) (c .before .before .before .before .before .before .before .place .given .1)))
 
 add-p : tie.Need-add-p Inv-loop2 μ-loop2 Inv-loop μ-loop
 add-p c = search needs
@@ -91,7 +97,7 @@ loop2-again : tie.Need-loop2-again Inv-loop2 μ-loop2 Inv-loop μ-loop
 loop2-again c = (omega arith, row-more _ _ _ _ _ (c .before .before .before .loop2 .inv .1))
 
 add-floor : tie.Need-add-floor Inv-loop2 μ-loop2 Inv-loop μ-loop
-add-floor c = record { fits = omega (arith, entry-bound _ _ _ _ (sym (c .before .before .before .before .before .before .before .entry-at .ensures) ∙ ap (λ p. placed p (c .before .before .before .before .before .before .before .entry-at .result .entry)) (c .before .before .before .before .before .place .given .1))) }
+add-floor c = record { fits = omega (arith, entry-bound _ _ _ _ (part-read _ (c .before .before .before .before .before .before .before .entry-at .ensures) (c .before .before .before .before .before .place .given .1))) }
 
 sub-left : tie.Need-sub-left Inv-loop2 μ-loop2 Inv-loop μ-loop
 sub-left c = search needs
@@ -100,9 +106,10 @@ loop-less : tie.Need-loop-less Inv-loop2 μ-loop2 Inv-loop μ-loop
 loop-less c = search needs
 
 loop-again : tie.Need-loop-again Inv-loop2 μ-loop2 Inv-loop μ-loop
+unfolding withState
 loop-again c =
     let h : c .before .loop2 .p ≡ 16 = omega arith in
-    task-turn _ _ (rising (c .before .before .before .before .before .before .before .before .before .before .loop .floor) (c .before .before .before .before .before .before .before .before .before .before .loop .table)) _ (c .before .before .before .before .before .before .before .before .before .before .loop .left) (c .before .before .before .before .before .before .before .entry-at .result .entry) _ (c .before .before .before .before .before .before .before .before .before .loop-test .taken) (sym (c .before .before .before .before .before .before .before .entry-at .ensures) ∙ ap (λ p. placed p (c .before .before .before .before .before .before .before .entry-at .result .entry)) (c .before .before .before .before .before .place .given .1)) (rw h at (c .before .loop2 .inv .1)) ∙ c .before .before .before .before .before .before .before .before .before .before .loop .inv
+    task-turn _ _ (rising (c .before .before .before .before .before .before .before .before .before .before .loop .floor) (c .before .before .before .before .before .before .before .before .before .before .loop .table)) _ (c .before .before .before .before .before .before .before .before .before .before .loop .left) (c .before .before .before .before .before .before .before .entry-at .result .entry) _ (c .before .before .before .before .before .before .before .before .before .loop-test .taken) (part-read _ (c .before .before .before .before .before .before .before .entry-at .ensures) (c .before .before .before .before .before .place .given .1)) (rw h at (c .before .loop2 .inv .1)) ∙ c .before .before .before .before .before .before .before .before .before .before .loop .inv
 
 refused-requires-2 : tie.Need-refused-requires-2 Inv-loop2 μ-loop2 Inv-loop μ-loop
 refused-requires-2 c κs = search needs
@@ -123,6 +130,7 @@ entries-spec =
     μ-loop2
     Inv-loop
     μ-loop
+    no-tasks-requires
     loop-holds
     entry-at-requires
     enum-known-place
@@ -130,7 +138,7 @@ entries-spec =
     refusal-requires
     refused-requires
     returns
-    mul-t32
+    mul-t27
     element-set-from-table
     loop2-holds
     mul-phase

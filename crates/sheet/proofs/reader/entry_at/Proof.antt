@@ -22,12 +22,12 @@ returns : tie.Need-returns
 unfolding entryAt
 returns c = rw (c .no-entry .ensures, c .before .after .ensures, ← c .before .before .before .before .rising .ensures, c .before .before .enum-told .given .1)
 
-entry-in-requires : tie.Need-entry-in-requires
-entry-in-requires c κs = search needs
+entry-on-requires : tie.Need-entry-on-requires
+entry-on-requires c κs = search needs
 
 returns-2 : tie.Need-returns-2
 unfolding entryAt
-returns-2 c = rw (← c .before .before .before .before .rising .ensures, c .before .before .number .given .1) (c .entry-in .ensures)
+returns-2 c = rw (← c .before .before .before .before .rising .ensures, c .before .before .number .given .1) (c .entry-on .ensures)
 
 pub entry-at-spec : {M : Type 1} → statement M
 entry-at-spec =
@@ -39,5 +39,5 @@ entry-at-spec =
     after-requires
     no-entry-requires
     returns
-    entry-in-requires
+    entry-on-requires
     returns-2)

@@ -1,8 +1,7 @@
 use borrow.Author.Needs.{needs}
 use native.Mathlib.Omega.{arith}
-use mathlib.Core.Path.{sym, ap, _∙_}
-use Rattle.sheet.specs.Got.{outcome}
 use Rattle.sheet.specs.Fields.{eventAt}
+use Rattle.sheet.proofs.Onward.{number-read}
 use Rattle.sheet.proofs.Bounds.{rising-bound}
 use Rattle.sheet.proofs.reader.event_at.Statement.{statement}
 use Rattle.sheet.proofs.reader.event_at.Tie as tie
@@ -27,17 +26,17 @@ unfolding eventAt
 returns c = rw (c .no-event .ensures, c .before .after .ensures, ← c .before .before .before .before .rising .ensures, c .before .before .enum-told .given .1)
 
 element-copy-out-if1 : tie.Need-element-copy-out-if1
-element-copy-out-if1 c = omega (arith, rising-bound _ _ _ _ (sym (c .before .before .before .rising .ensures) ∙ ap outcome (c .before .number .given .1)))
+element-copy-out-if1 c = omega (arith, rising-bound _ _ _ _ (number-read (c .before .before .before .rising .ensures) (c .before .number .given .1)))
 
-phase-at-requires : tie.Need-phase-at-requires
-phase-at-requires c κs = search needs
+phase-on-requires : tie.Need-phase-on-requires
+phase-on-requires c κs = search needs
 
 no-event-requires-2 : tie.Need-no-event-requires-2
 no-event-requires-2 c κs = search needs
 
 returns-2 : tie.Need-returns-2
 unfolding eventAt
-returns-2 c = rw (← c .before .before .before .before .before .before .rising .ensures, c .before .before .before .before .number .given .1, c .before .if1 .taken) (c .phase-at .ensures)
+returns-2 c = rw (← c .before .before .before .before .before .before .rising .ensures, c .before .before .before .before .number .given .1, c .before .if1 .taken) (c .phase-on .ensures)
 
 returns-3 : tie.Need-returns-3
 unfolding eventAt
@@ -54,7 +53,7 @@ event-at-spec =
     no-event-requires
     returns
     element-copy-out-if1
-    phase-at-requires
+    phase-on-requires
     no-event-requires-2
     returns-2
     returns-3)

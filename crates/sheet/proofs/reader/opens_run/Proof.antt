@@ -1,18 +1,19 @@
+-- The phasers that are left, read from here on, give what all of them give.
 use borrow.Author.Needs.{needs}
 use native.Mathlib.Omega.{arith}
-use mathlib.Core.Path.{_≡_, refl, sym, ap, _∙_}
+use mathlib.Core.Path.{_≡_, refl, _∙_}
 use mathlib.Core.Bool.{false}
 use lib.ListN.{replicate}
-use Rattle.sheet.specs.Got.{outcome}
 use Rattle.sheet.specs.Fields.{rising, each, openStep}
-use Rattle.sheet.proofs.Onward.{going, going-turn, going-refused, going-end}
+use Rattle.sheet.proofs.Onward.{number-read, number-refused, going, going-turn, going-refused, going-end}
 use Rattle.sheet.proofs.Bounds.{rising-bound}
 use Rattle.sheet.proofs.Steps.{open-read, open-refused}
 use Rattle.sheet.proofs.reader.opens_run.Statement.{statement}
 use Rattle.sheet.proofs.reader.opens_run.Tie as tie
 
 abbrev Inv-loop : tie.InvT-loop
-Inv-loop sheet count first opened₀ floor₀ at₀ left₀ opened floor at left = going (openStep sheet) left floor opened at ≡ each (openStep sheet) count (replicate 16 false) first
+Inv-loop sheet count first opened₀ floor₀ at₀ left₀ opened floor at left =
+    going (openStep sheet) left floor opened at ≡ each (openStep sheet) count (replicate 16 false) first
 
 abbrev μ-loop : tie.MeasureT-loop
 μ-loop sheet count first opened₀ floor₀ at₀ left₀ opened floor at left = left
@@ -34,13 +35,13 @@ after-requires : tie.Need-after-requires Inv-loop μ-loop
 after-requires c κs = search needs
 
 returns : tie.Need-returns Inv-loop μ-loop
-returns c = rw (c .after .ensures, c .before .enum-told .given .1) (going-refused (openStep _) (c .before .before .before .before .before .loop .floor) (c .before .before .before .before .before .loop .opened) (c .before .before .before .before .before .loop .at) (c .before .before .before .before .before .loop .left) (c .before .before .before .before .loop-test .taken) (open-refused _ (rising (c .before .before .before .before .before .loop .floor) (c .before .before .before .before .before .loop .opened)) _ (sym (c .before .before .before .rising .ensures) ∙ ap outcome (c .before .enum-told .given .1))) ∙ c .before .before .before .before .before .loop .inv)
+returns c = rw (c .after .ensures, c .before .enum-told .given .1) (going-refused (openStep _) (c .before .before .before .before .before .loop .floor) (c .before .before .before .before .before .loop .opened) (c .before .before .before .before .before .loop .at) (c .before .before .before .before .before .loop .left) (c .before .before .before .before .loop-test .taken) (open-refused _ (rising (c .before .before .before .before .before .loop .floor) (c .before .before .before .before .before .loop .opened)) _ (number-refused (c .before .before .before .rising .ensures) (c .before .enum-told .given .1))) ∙ c .before .before .before .before .before .loop .inv)
 
 array-write-opened : tie.Need-array-write-opened Inv-loop μ-loop
-array-write-opened c = omega (arith, rising-bound _ _ _ _ (sym (c .before .before .before .rising .ensures) ∙ ap outcome (c .before .number .given .1)))
+array-write-opened c = omega (arith, rising-bound _ _ _ _ (number-read (c .before .before .before .rising .ensures) (c .before .number .given .1)))
 
 add-floor : tie.Need-add-floor Inv-loop μ-loop
-add-floor c = record { fits = omega (arith, rising-bound _ _ _ _ (sym (c .before .before .before .rising .ensures) ∙ ap outcome (c .before .number .given .1))) }
+add-floor c = record { fits = omega (arith, rising-bound _ _ _ _ (number-read (c .before .before .before .rising .ensures) (c .before .number .given .1))) }
 
 sub-left : tie.Need-sub-left Inv-loop μ-loop
 sub-left c = search needs
@@ -49,7 +50,7 @@ loop-less : tie.Need-loop-less Inv-loop μ-loop
 loop-less c = search needs
 
 loop-again : tie.Need-loop-again Inv-loop μ-loop
-loop-again c = going-turn (openStep _) (c .before .before .before .before .before .loop .floor) (c .before .before .before .before .before .loop .opened) (c .before .before .before .before .before .loop .at) (c .before .before .before .before .before .loop .left) (c .before .before .before .before .loop-test .taken) (open-read _ (rising (c .before .before .before .before .before .loop .floor) (c .before .before .before .before .before .loop .opened)) _ (sym (c .before .before .before .rising .ensures) ∙ ap outcome (c .before .number .given .1))) ∙ c .before .before .before .before .before .loop .inv
+loop-again c = going-turn (openStep _) (c .before .before .before .before .before .loop .floor) (c .before .before .before .before .before .loop .opened) (c .before .before .before .before .before .loop .at) (c .before .before .before .before .before .loop .left) (c .before .before .before .before .loop-test .taken) (open-read _ (rising (c .before .before .before .before .before .loop .floor) (c .before .before .before .before .before .loop .opened)) _ (number-read (c .before .before .before .rising .ensures) (c .before .number .given .1))) ∙ c .before .before .before .before .before .loop .inv
 
 returns-2 : tie.Need-returns-2 Inv-loop μ-loop
 returns-2 c = going-end (openStep _) (c .before .loop .floor) (c .before .loop .opened) (c .before .loop .at) (c .before .loop .left) (omega (arith, c .loop-test .left)) ∙ c .before .loop .inv

@@ -1,6 +1,6 @@
 use borrow.Author.Needs.{needs}
-use mathlib.Core.Path.{sym, ap, _∙_}
-use Rattle.sheet.specs.Got.{refusalOf}
+use mathlib.Core.Path.{ap, _∙_}
+use Rattle.sheet.specs.Places.{refusalOf}
 use Rattle.sheet.specs.Fields.{sheetAt, tableAt, refusedBy}
 use Rattle.sheet.proofs.reader.read.Statement.{statement}
 use Rattle.sheet.proofs.reader.read.Tie as tie

@@ -1,8 +1,8 @@
 use borrow.Author.Needs.{needs}
 use borrow.Author.Tests.{eq-eqb, ne-eqb}
 use Rattle.sheet.specs.Fields.{stateOn}
-use Rattle.sheet.proofs.reader.state_at.Statement.{statement}
-use Rattle.sheet.proofs.reader.state_at.Tie as tie
+use Rattle.sheet.proofs.reader.state_on.Statement.{statement}
+use Rattle.sheet.proofs.reader.state_on.Tie as tie
 
 plain-requires : tie.Need-plain-requires
 plain-requires c κs = search needs
@@ -35,8 +35,8 @@ returns-4 : tie.Need-returns-4
 unfolding stateOn
 returns-4 c = rw (← c .before .before .before .before .before .plain .ensures, c .before .before .before .number .given .1, ne-eqb _ _ (c .before .if1 .left), ne-eqb _ _ (c .if2 .left))
 
-pub state-at-spec : {M : Type 1} → statement M
-state-at-spec =
+pub state-on-spec : {M : Type 1} → statement M
+state-on-spec =
     tie.close
     (tie.spec
     plain-requires

@@ -1,11 +1,10 @@
 use borrow.Author.Needs.{needs}
 use native.Mathlib.Omega.{arith}
-use mathlib.Core.Path.{sym, ap, _∙_}
-use Rattle.sheet.specs.Got.{outcome}
 use Rattle.sheet.specs.Fields.{phaseOn}
+use Rattle.sheet.proofs.Onward.{number-read}
 use Rattle.sheet.proofs.Bounds.{number-bound}
-use Rattle.sheet.proofs.reader.phase_at.Statement.{statement}
-use Rattle.sheet.proofs.reader.phase_at.Tie as tie
+use Rattle.sheet.proofs.reader.phase_on.Statement.{statement}
+use Rattle.sheet.proofs.reader.phase_on.Tie as tie
 
 cast-read : tie.Need-cast-read
 cast-read c = search needs
@@ -30,14 +29,14 @@ unfolding phaseOn
 returns c = rw (c .no-event .ensures, c .before .after .ensures, ← c .before .before .before .before .read .ensures, c .before .before .enum-told .given .1)
 
 cast-t10 : tie.Need-cast-t10
-cast-t10 c = omega (arith, number-bound _ _ _ (sym (c .before .before .before .read .ensures) ∙ ap outcome (c .before .number .given .1)))
+cast-t10 c = omega (arith, number-bound _ _ _ (number-read (c .before .before .before .read .ensures) (c .before .number .given .1)))
 
 returns-2 : tie.Need-returns-2
 unfolding phaseOn
 returns-2 c = rw (← c .before .before .before .read .ensures, c .before .number .given .1)
 
-pub phase-at-spec : {M : Type 1} → statement M
-phase-at-spec =
+pub phase-on-spec : {M : Type 1} → statement M
+phase-on-spec =
     tie.close
     (tie.spec
     cast-read
