@@ -6,4 +6,3 @@ pub mod Moves
 pub mod Sheets
 pub mod Demands
 pub mod OneAnswer
-pub mod Bench

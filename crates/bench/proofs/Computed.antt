@@ -34,8 +34,8 @@ use Rattle.judge.proofs.One.{routes-agree}
 use Rattle.judge.proofs.Sets.{maskOf}
 use Rattle.judge.proofs.Twins.{rowsOf, namedIn, ringIn, roundIn, judgeOf, judgeOf-judged}
 use Rattle.sheet.specs.Number.{plainAt, numberAt}
-use Rattle.demands.specs.Bench.{Row, judged, called, read, statedOf, after, Holds, Each, call, openTask, p4, p7, rows}
+use Rattle.bench.specs.Bench.{Row, judged, called, read, statedOf, after, Holds, Each, call, openTask, p4, p7, rows}
 use Rattle.demands.specs.Series.{Call, made, Series}
 
 -- ---- P11
 -- the first n tasks run
