@@ -1,3 +1,4 @@
 pub mod Walk
 pub mod Waiting
 pub mod Ring
+pub mod Steps

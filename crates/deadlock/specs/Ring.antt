@@ -1,7 +1,7 @@
 -- The ring (document 01, 'Stuck', last paragraph), over any named tasks and any edges between them.
 use mathlib.Core.Path.{_≡_}
 use mathlib.Core.Bool.{Bool, true, false}
-use mathlib.Core.List.{List, [], _∷_, _++_}
+use mathlib.Core.List.{List, [], _++_}
 use Prim.Native.Nat.{ℕ, suc, _+_, _-_, _<_}
 use lib.ListN.{length, getD, replicate}
 use Rattle.sets.specs.Set.{Least}
@@ -51,4 +51,4 @@ module _ (Named : ℕ → Type 0) (Edge : ℕ → ℕ → Type 0) where
 
 -- edges kept as one number for each of 32 tasks: from t to the number at place t
 abbrev pub Next : List ℕ → ℕ → ℕ → Type 0
-Next next t u = (t < 32) × (u ≡ getD next t 255)
+Next next t u = (t < 32) × (u ≡ getD next t 0)

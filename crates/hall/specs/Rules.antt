@@ -7,12 +7,13 @@ use lib.Dec.{eqb}
 use Rattle.hall.specs.Table.{openAt, memberAt, phaseAt}
 use Rattle.hall.specs.declared.table.Table.{Table}
 
+-- X with v at k
+abbrev pub put : {A : Type 0} → (ℕ → A) → ℕ → A → ℕ → A
+put X k v j = cond (eqb j k) v (X j)
+
 -- a map, as a partial function; `put X k (some v)` is X ⊎ {k : v} where X has no k, and `put X k none` is X without k
 abbrev pub Map : Type 0 → Type 0
 Map A = ℕ → Option A
-
-abbrev pub put : {A : Type 0} → Map A → ℕ → Option A → Map A
-put X k v j = cond (eqb j k) v (X j)
 
 -- "P denote a phaser that maps task names to local phases"; "a phaser map M .. from phasers names to phasers"
 abbrev pub Phaser : Type 0

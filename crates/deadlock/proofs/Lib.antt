@@ -1,0 +1,13 @@
+pub mod Walks
+pub mod Theory
+pub mod Clearing
+pub mod Rings
+pub mod Search
+pub mod Found
+pub mod Stepping
+pub mod Reached
+pub mod Turns
+pub mod Moves
+pub mod Twins
+pub mod One
+pub mod Examples

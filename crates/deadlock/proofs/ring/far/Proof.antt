@@ -1,0 +1,45 @@
+-- The invariant: the steps that are left, from here, come to where 32 come from the start.
+use mathlib.Core.Path.{_≡_, refl, sym, _∙_}
+use Prim.Native.Nat.{_-_, _≤_, _<_}
+use native.Mathlib.Omega.{arith}
+use Rattle.deadlock.specs.Steps.{goOf}
+use Rattle.deadlock.proofs.Turns.{go-turn, go-end}
+use Rattle.deadlock.proofs.ring.far.Statement.{statement}
+use Rattle.deadlock.proofs.ring.far.Tie as tie
+
+abbrev Inv-loop : tie.InvT-loop
+Inv-loop next named from task₀ step₀ task step = (step ≤ 32) × (goOf next named from 32 ≡ goOf next named task (32 - step))
+
+abbrev μ-loop : tie.MeasureT-loop
+μ-loop next named from task₀ step₀ task step = 32 - step
+
+loop-holds : tie.Need-loop-holds Inv-loop μ-loop
+loop-holds c = (omega arith, refl)
+
+after-requires : tie.Need-after-requires Inv-loop μ-loop
+after-requires c κs = tt
+
+add-step : tie.Need-add-step Inv-loop μ-loop
+add-step c = omega arith
+
+loop-less : tie.Need-loop-less Inv-loop μ-loop
+loop-less c = omega arith
+
+loop-again : tie.Need-loop-again Inv-loop μ-loop
+loop-again c =
+    let s = c .before .before .before in
+    let l = c .before .before .loop in
+    let h : l .step < 32 = omega arith in
+    (omega arith, l .inv .1 ∙ go-turn (s .args .next) (s .args .named) (l .task) (l .step) _ h (c .after .ensures))
+
+returns : tie.Need-returns Inv-loop μ-loop
+returns c =
+    let s = c .before .before in
+    let l = c .before .loop in
+    let h : 32 ≤ l .step = omega arith in
+    sym (l .inv .1 ∙ go-end (s .args .next) (s .args .named) (l .task) (l .step) h)
+
+pub far-spec : {M : Type 1} → statement M
+far-spec =
+    tie.close
+    (tie.spec Inv-loop μ-loop loop-holds after-requires add-step loop-less loop-again returns)

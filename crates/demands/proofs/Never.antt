@@ -1,0 +1,33 @@
+-- A stuck task is released in no series: every call keeps it stuck, and a release is refused where the event is impeded.
+use mathlib.Core.Logic.{⊎-elim}
+use mathlib.Core.List.{[], _∷_}
+use Prim.Native.Nat.{ℕ}
+use Rattle.deadlock.proofs.Theory.{frame-stuck}
+use Rattle.hall.specs.Table.{Shaped}
+use Rattle.hall.specs.Waiting.{BlockedOn, Impedes}
+use Rattle.hall.specs.declared.table.Table.{Table}
+use Rattle.hall.proofs.Frame.{Frame, call-frame, impeded-refused}
+use Rattle.hall.proofs.Kept.{call-shaped}
+use Rattle.demands.specs.Series.{StuckIn, Call, made, Accepted, Releases, Contains, Never}
+
+pub frame-keeps : (t t′ : Table) → Frame t t′ → (k : ℕ) → StuckIn t k → StuckIn t′ k
+frame-keeps t t′ f = frame-stuck (BlockedOn t) (Impedes t) (BlockedOn t′) (Impedes t′) (record { stays = f .stays; keeps = f .holds })
+
+pub stuck-refused : (t : Table) (k : ℕ) → StuckIn t k → (c : Call) → Releases k c → Accepted t c → ⊥
+stuck-refused t k x c r a =
+    let h = x .deadlocked .each k (x .holds) in
+    impeded-refused t k (h .by) (h .event) (h .waits) (h .impedes) (c .phaser) (c .other) (rw (r .kind, r .task) at a)
+
+-- ---- through a call
+pub made-shaped : (t : Table) → Shaped t → (c : Call) → Shaped (made t c .table)
+made-shaped t z c = call-shaped t z (c .kind) (c .task) (c .phaser) (c .other)
+
+pub made-stuck : (t : Table) → Shaped t → (c : Call) (k : ℕ) → StuckIn t k → StuckIn (made t c .table) k
+made-stuck t z c = frame-keeps t (made t c .table) (call-frame t z (c .kind) (c .task) (c .phaser) (c .other))
+
+-- ---- through a series
+pub stuck-never : (t : Table) → Shaped t → (k : ℕ) → StuckIn t k → Never t k
+stuck-never t z k x [] s f = f
+stuck-never t z k x (c ∷ calls) s f =
+    ⊎-elim (λ (r : Releases k c). stuck-refused t k x c r (s .0))
+    (λ (g : Contains k calls). stuck-never (made t c .table) (made-shaped t z c) k (made-stuck t z c k x) calls (s .1) g) f

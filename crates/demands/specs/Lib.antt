@@ -1,0 +1,5 @@
+pub mod Series
+pub mod Moves
+pub mod Demands
+pub mod OneAnswer
+pub mod Bench

@@ -1,0 +1,57 @@
+-- Document 00, demand 3: "A blocked task is among them exactly when no series of accepted calls, however long and by whichever tasks, could ever contain an
+-- accepted release of it."
+use mathlib.Core.Path.{_≡_}
+use mathlib.Core.Logic.{_⊎_}
+use mathlib.Core.List.{List, [], _∷_, _++_}
+use Prim.Native.Nat.{ℕ, _<_}
+use Rattle.deadlock.specs.Waiting.{Stuck}
+use Rattle.hall.specs.Calls.{callOf}
+use Rattle.hall.specs.Waiting.{BlockedOn, Impedes}
+use Rattle.hall.specs.declared.calls.Called.{Called}
+use Rattle.hall.specs.declared.table.Table.{Table}
+
+-- some totally deadlocked set holds task k
+abbrev pub StuckIn : Table → ℕ → Type 1
+StuckIn t k = Stuck (BlockedOn t) (Impedes t) k
+
+-- a call: its kind and the numbers that come with it, of any size
+pub record Call : Type 0 where
+  pub kind : ℕ
+  pub task : ℕ
+  pub phaser : ℕ
+  pub other : ℕ
+
+-- its answer, its value and the next table
+abbrev pub made : Table → Call → Called
+made t c = callOf t (c .kind) (c .task) (c .phaser) (c .other)
+
+-- "An accepted call is one answered below 10" (document 01)
+abbrev pub Accepted : Table → Call → Type 0
+Accepted t c = made t c .answer < 10
+
+-- "series of accepted calls, however long and by whichever tasks": each is accepted in the table that those before it left
+abbrev pub Series : Table → List Call → Type 0
+Series t [] = Unit {0}
+Series t (c ∷ calls) = Accepted t c × Series (made t c .table) calls
+
+-- a release of task k: kind 9
+pub record Releases (k : ℕ) (c : Call) : Type 0 where
+  pub kind : c .kind ≡ 9
+  pub task : c .task ≡ k
+
+-- the calls contain one
+abbrev pub Contains : ℕ → List Call → Type 0
+Contains k [] = ⊥
+Contains k (c ∷ calls) = Releases k c ⊎ Contains k calls
+
+-- "no series of accepted calls .. could ever contain an accepted release of it"
+abbrev pub Never : Table → ℕ → Type 0
+Never t k = (calls : List Call) → Series t calls → Contains k calls → ⊥
+
+-- "a task left off the list must have a way to go on": a series that ends in its release
+abbrev pub release : ℕ → Call
+release k = record { kind = 9; task = k; phaser = 0; other = 0 }
+
+pub record WayOn (t : Table) (k : ℕ) : Type 0 where
+  pub calls : List Call
+  pub series : Series t (calls ++ (release k ∷ []))

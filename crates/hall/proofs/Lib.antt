@@ -1,0 +1,17 @@
+pub mod Every
+pub mod Places
+pub mod Refusals
+pub mod Lists
+pub mod Passed
+pub mod Written
+pub mod Rows
+pub mod ByKind
+pub mod Soundness
+pub mod Impeded
+pub mod Changes
+pub mod Accepted
+pub mod Answered
+pub mod Kept
+pub mod Frame
+pub mod Maps
+pub mod Figure3

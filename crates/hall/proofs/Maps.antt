@@ -1,0 +1,145 @@
+-- What a table stands for in figure 3's maps, and how writes move it.
+use mathlib.Core.Path.{_≡_, refl, ap, _∙_, fun-ext}
+use mathlib.Core.Logic.{_↔_}
+use mathlib.Core.Bool.{Bool, true, false, cond, and-true, and-false}
+use mathlib.Core.Option.{Option, some, none, Option·some-injective, Option·none-ne-some, Option·some-ne-none}
+use Prim.Native.Nat.{ℕ, _<_, _≤_}
+use native.Mathlib.Omega.{arith}
+use lib.Dec.{leb, eqb}
+use borrow.Author.Tests.{eqb-true, eqb-false, eq-eqb, leb-true, leb-false}
+use Rattle.hall.specs.Rules.{put, Phaser, PhaserMap, Await, phaserOf, phasersOf}
+use Rattle.hall.specs.Table.{openAt, memberAt, phaseAt, event}
+use Rattle.hall.specs.Waiting.{reachedOf}
+use Rattle.hall.specs.declared.table.State.{State}
+use Rattle.hall.specs.declared.table.Table.{Table}
+use Rattle.hall.proofs.Impeded.{impedes-iff, reached-iff}
+use Rattle.hall.proofs.Written.{Reads, putAt, put-here, put-other}
+
+-- ---- reading a table's maps
+module _ (t : Table) (p : ℕ) where
+  pub phaser-there : openAt t p ≡ true → phasersOf t p ≡ some (phaserOf t p)
+  unfolding phasersOf
+  phaser-there e = rw e
+
+  pub phaser-opens : (P : Phaser) → phasersOf t p ≡ some P → (openAt t p ≡ true) × (phaserOf t p ≡ P)
+  unfolding phasersOf
+  phaser-opens P = go (openAt t p) refl
+    where
+      go : (b : Bool) → openAt t p ≡ b → cond {A = Option Phaser} b (some (phaserOf t p)) none ≡ some P → (openAt t p ≡ true) × (phaserOf t p ≡ P)
+      go true e q = (e, Option·some-injective (phaserOf t p) P q)
+      go false e q = absurd (Option·none-ne-some P q)
+
+  pub phaser-absent : (phasersOf t p ≡ none) ↔ (openAt t p ≡ false)
+  unfolding phasersOf
+  phaser-absent = (go (openAt t p), λ e. rw e)
+    where
+      go : (b : Bool) → cond {A = Option Phaser} b (some (phaserOf t p)) none ≡ none → b ≡ false
+      go true q = absurd (Option·some-ne-none (phaserOf t p) q)
+      go false q = refl
+
+  module _ (u : ℕ) where
+    pub member-there : memberAt t u p ≡ true → phaserOf t p u ≡ some (phaseAt t u p)
+    unfolding phaserOf
+    member-there e = rw e
+
+    pub member-is : (n : ℕ) → phaserOf t p u ≡ some n → (memberAt t u p ≡ true) × (phaseAt t u p ≡ n)
+    unfolding phaserOf
+    member-is n = go (memberAt t u p) refl
+      where
+        go : (b : Bool) → memberAt t u p ≡ b → cond {A = Option ℕ} b (some (phaseAt t u p)) none ≡ some n → (memberAt t u p ≡ true) × (phaseAt t u p ≡ n)
+        go true e q = (e, Option·some-injective (phaseAt t u p) n q)
+        go false e q = absurd (Option·none-ne-some n q)
+
+    pub member-absent : (phaserOf t p u ≡ none) ↔ (memberAt t u p ≡ false)
+    unfolding phaserOf
+    member-absent = (go (memberAt t u p), λ e. rw e)
+      where
+        go : (b : Bool) → cond {A = Option ℕ} b (some (phaseAt t u p)) none ≡ none → b ≡ false
+        go true q = absurd (Option·some-ne-none (phaseAt t u p) q)
+        go false q = refl
+
+-- ---- the maps of what is read
+abbrev phaserRead : (ℕ → ℕ → Bool) → (ℕ → ℕ → ℕ) → ℕ → Phaser
+phaserRead member phase p u = cond (member u p) (some (phase u p)) none
+
+abbrev phasersRead : (ℕ → Bool) → (ℕ → ℕ → Bool) → (ℕ → ℕ → ℕ) → PhaserMap
+phasersRead opened member phase p = cond (opened p) (some (phaserRead member phase p)) none
+
+reads-phasers : (t : Table) {state : ℕ → State} {opened : ℕ → Bool} {member : ℕ → ℕ → Bool} {phase : ℕ → ℕ → ℕ} → Reads t state opened member phase
+    → phasersOf t ≡ phasersRead opened member phase
+unfolding phasersOf phaserOf
+reads-phasers t {opened} {member} {phase} r =
+    fun-ext
+    (λ p.
+    rw (r .opens p)
+    (ap (λ (P : Phaser). cond {A = Option Phaser} (opened p) (some P) none) (fun-ext (λ u. rw (r .members u p, r .phases u p)))))
+
+-- entry (k, p) is written, and p is open
+module _ (opened next : ℕ → Bool) (member : ℕ → ℕ → Bool) (phase : ℕ → ℕ → ℕ) (k p : ℕ) (m : Bool) (n : ℕ) where
+  abbrev written : PhaserMap
+  written = phasersRead next (putAt member k p m) (putAt phase k p n)
+
+  phasers-entry : (P : Phaser) → phaserRead member phase p ≡ P → next p ≡ true → ((q : ℕ) → (q ≡ p → ⊥) → next q ≡ opened q)
+      → written ≡ put (phasersRead opened member phase) p (some (put P k (cond m (some n) none)))
+  phasers-entry P e o s = fun-ext (λ q. go q (eqb q p) refl)
+    where
+      there : (u : ℕ) → phaserRead (putAt member k p m) (putAt phase k p n) p u ≡ put P k (cond m (some n) none) u
+      there u = rw (eq-eqb p p refl, and-true (eqb u k)) (at (eqb u k))
+        where
+          at : (b : Bool) → cond {A = Option ℕ} (cond b m (member u p)) (some (cond b n (phase u p))) none ≡ cond b (cond m (some n) none) (P u)
+          at true = refl
+          at false = ap (λ (Q : Phaser). Q u) e
+
+      away : (q : ℕ) → eqb q p ≡ false → (u : ℕ) → phaserRead (putAt member k p m) (putAt phase k p n) q u ≡ phaserRead member phase q u
+      away q x u = rw (x, and-false (eqb u k))
+
+      go : (q : ℕ) (b : Bool) → eqb q p ≡ b → written q ≡ cond b (some (put P k (cond m (some n) none))) (phasersRead opened member phase q)
+      go q true x =
+          ap written (eqb-true q p x)
+          ∙ (ap (λ (b : Bool). cond {A = Option Phaser} b (some (phaserRead (putAt member k p m) (putAt phase k p n) p)) none) o
+          ∙ ap {B = Option Phaser} some (fun-ext there))
+      go q false x =
+          ap (λ (b : Bool). cond {A = Option Phaser} b (some (phaserRead (putAt member k p m) (putAt phase k p n) q)) none) (s q (eqb-false q p x))
+          ∙ ap (λ (Q : Phaser). cond {A = Option Phaser} (opened q) (some Q) none) (fun-ext (away q x))
+
+-- ---- how writes move a table's map
+module _ (t u : Table) where
+  -- states only
+  pub phasers-same : {state : ℕ → State} → Reads u state (openAt t) (memberAt t) (phaseAt t) → phasersOf u ≡ phasersOf t
+  unfolding phasersOf phaserOf
+  phasers-same r = reads-phasers u r
+
+  -- one entry of an open phaser
+  pub phasers-moved : {state : ℕ → State} (k p : ℕ) (m : Bool) (n : ℕ) → openAt t p ≡ true
+      → Reads u state (openAt t) (putAt (memberAt t) k p m) (putAt (phaseAt t) k p n)
+      → phasersOf u ≡ put (phasersOf t) p (some (put (phaserOf t p) k (cond m (some n) none)))
+  unfolding phasersOf phaserOf
+  phasers-moved k p m n o r =
+      reads-phasers u r ∙ phasers-entry (openAt t) (openAt t) (memberAt t) (phaseAt t) k p m n (phaserOf t p) refl o (λ q x. refl)
+
+  -- a phaser with no members is opened, with one
+  pub phasers-opened : {state : ℕ → State} (k p n : ℕ) → ((j : ℕ) → memberAt t j p ≡ false)
+      → Reads u state (put (openAt t) p true) (putAt (memberAt t) k p true) (putAt (phaseAt t) k p n)
+      → phasersOf u ≡ put (phasersOf t) p (some (put (λ j. none) k (some n)))
+  unfolding phasersOf phaserOf
+  phasers-opened k p n e r =
+      reads-phasers u r
+      ∙ phasers-entry (openAt t) (put (openAt t) p true) (memberAt t) (phaseAt t) k p true n (λ j. none) (fun-ext (λ j. rw (e j))) (put-here (openAt t) p true)
+      (put-other (openAt t) p true)
+
+-- ---- the test of a wait is await(P, n)
+pub reached-await : (t : Table) (p n : ℕ) → (reachedOf t (event p n) ≡ true) ↔ Await (phaserOf t p) n
+reached-await t p n = (there, λ w. reached-iff t (event p n) .1 (λ u i. back w u (impedes-iff t u (event p n) .0 i)))
+  where
+    there : reachedOf t (event p n) ≡ true → Await (phaserOf t p) n
+    there r u m e = go (leb n m) refl
+      where
+        go : (b : Bool) → leb n m ≡ b → n ≤ m
+        go true q = leb-true n m q
+        go false q =
+            let h = member-is t p u m e in
+            let l = leb-false n m q in
+            absurd (reached-iff t (event p n) .0 r u (impedes-iff t u (event p n) .1 (h .0, omega (arith, h .1))))
+
+    back : Await (phaserOf t p) n → (u : ℕ) → (memberAt t u p ≡ true) × (phaseAt t u p < n) → ⊥
+    back w u x = let l = w u (phaseAt t u p) (member-there t p u (x .0)) in omega (arith, x .1)

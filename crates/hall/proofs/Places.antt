@@ -1,0 +1,75 @@
+-- Where a table's arrays hold what it says: the place of an entry is task times sixteen plus phaser.
+use mathlib.Core.Path.{_≡_, refl, ap, sym, _∙_}
+use mathlib.Core.Bool.{Bool, true, false, cond, and-false, true≢false}
+use Prim.Native.Nat.{ℕ, _+_, _*_, _/_, _%_, _<_, _≤_}
+use native.Mathlib.Nat.{div-add-mod'}
+use native.Mathlib.Omega.{arith}
+use lib.Dec.{ltb}
+use lib.ListN.{getD}
+use borrow.Author.Tests.{lt-ltb, le-ltb, ltb-true}
+use Rattle.hall.specs.Sound.{entrySound}
+use Rattle.hall.specs.Table.{freeTask, phase0, entry, stateAt, openAt, memberAt, phaseAt, isLive}
+use Rattle.hall.specs.declared.table.State.the-variants.{Free}
+use Rattle.hall.specs.declared.table.Table.{Table}
+use Rattle.hall.proofs.Every.{and-left}
+
+module _ (t : Table) where
+  pub state-in : (k : ℕ) → k < 32 → stateAt t k ≡ getD (t .tasks) k freeTask .state
+  unfolding stateAt
+  state-in k h = simp (lt-ltb k 32 h)
+
+  pub state-out : (k : ℕ) → 32 ≤ k → stateAt t k ≡ Free
+  unfolding stateAt
+  state-out k h = simp (le-ltb k 32 h)
+
+  pub open-in : (p : ℕ) → p < 16 → openAt t p ≡ getD (t .opened) p false
+  unfolding openAt
+  open-in p h = simp (lt-ltb p 16 h)
+
+  pub open-out : (p : ℕ) → 16 ≤ p → openAt t p ≡ false
+  unfolding openAt
+  open-out p h = simp (le-ltb p 16 h)
+
+  pub member-in : (k p : ℕ) → k < 32 → p < 16 → memberAt t k p ≡ getD (t .members) (k * 16 + p) false
+  unfolding memberAt
+  member-in k p h g = simp (lt-ltb k 32 h, lt-ltb p 16 g)
+
+  pub member-out : (k p : ℕ) → 16 ≤ p → memberAt t k p ≡ false
+  unfolding memberAt
+  member-out k p g = simp (le-ltb p 16 g, and-false)
+
+  pub phase-in : (k p : ℕ) → k < 32 → p < 16 → phaseAt t k p ≡ getD (t .phases) (k * 16 + p) phase0 .0
+  unfolding phaseAt
+  phase-in k p h g = simp (lt-ltb k 32 h, lt-ltb p 16 g)
+
+  -- the other way: the entry that stands at a place
+  pub member-of : (i : ℕ) → i < 512 → memberAt t (i / 16) (i % 16) ≡ getD (t .members) i false
+  member-of i h =
+      member-in (i / 16) (i % 16) (omega arith) (omega arith) ∙ ap (λ (j : ℕ). getD (t .members) j false) (div-add-mod' i 16)
+
+  pub phase-of : (i : ℕ) → i < 512 → phaseAt t (i / 16) (i % 16) ≡ getD (t .phases) i phase0 .0
+  phase-of i h =
+      phase-in (i / 16) (i % 16) (omega arith) (omega arith) ∙ ap (λ (j : ℕ). getD (t .phases) j phase0 .0) (div-add-mod' i 16)
+
+  -- a task that is live, a phaser that is open, has a number in range
+  pub live-below : (k : ℕ) → isLive (stateAt t k) ≡ true → k < 32
+  unfolding stateAt
+  live-below k e = go (ltb k 32) refl e
+    where
+      go : (b : Bool) → ltb k 32 ≡ b → isLive (cond b (getD (t .tasks) k freeTask .state) Free) ≡ true → k < 32
+      go true q h = ltb-true k 32 q
+      go false q h = absurd (true≢false (sym h))
+
+  pub open-below : (p : ℕ) → openAt t p ≡ true → p < 16
+  unfolding openAt
+  open-below p e = ltb-true p 16 (and-left (ltb p 16) (getD (t .opened) p false) e)
+
+  -- the test of the entry that stands at a place
+  abbrev pub entryTest : ℕ → Bool
+  entryTest i = entrySound (memberAt t (i / 16) (i % 16)) (stateAt t (i / 16)) (openAt t (i % 16)) (phaseAt t (i / 16) (i % 16))
+
+  pub entry-test : (i : ℕ) → i < 512 → entryTest i
+      ≡ entrySound (getD (t .members) i false) (getD (t .tasks) (i / 16) freeTask .state) (getD (t .opened) (i % 16) false)
+      (getD (t .phases) i phase0 .0)
+  entry-test i h =
+      cc (member-of i h, phase-of i h, state-in (i / 16) (omega arith), open-in (i % 16) (omega arith))

@@ -1,0 +1,46 @@
+use borrow.Author.Tests.{le-ltb}
+use Rattle.hall.proofs.Places.{open-in, open-out}
+use borrow.Author.Needs.{needs}
+use Rattle.hall.proofs.sound.state_sound.Statement.{statement}
+use Rattle.hall.proofs.sound.state_sound.Tie as tie
+
+enum-told : tie.Need-enum-told
+enum-told c = search needs
+
+enum-told-2 : tie.Need-enum-told-2
+enum-told-2 c = search needs
+
+enum-known-state : tie.Need-enum-known-state
+enum-known-state c = search needs
+
+array-read-if2 : tie.Need-array-read-if2
+array-read-if2 c = search needs
+
+returns : tie.Need-returns
+returns c = λ t e. search needs
+
+returns-2 : tie.Need-returns-2
+returns-2 c = λ t e. search needs
+
+returns-3 : tie.Need-returns-3
+returns-3 c = λ t e. simp (c .before .before .before .before .state .given .1, open-in t _ (c .before .before .if1 .taken), e, c .before .if2 .taken)
+
+returns-4 : tie.Need-returns-4
+returns-4 c = λ t e. simp (c .before .before .before .state .given .1, open-in t _ (c .before .if1 .taken), e, c .if2 .left)
+
+returns-5 : tie.Need-returns-5
+returns-5 c = λ t e. simp (c .before .before .state .given .1, open-out t _ (c .if1 .left), le-ltb _ _ (c .if1 .left))
+
+pub state-sound-spec : {M : Type 1} → statement M
+state-sound-spec =
+    tie.close
+    (tie.spec
+    enum-told
+    enum-told-2
+    enum-known-state
+    array-read-if2
+    returns
+    returns-2
+    returns-3
+    returns-4
+    returns-5)

@@ -1,0 +1,50 @@
+-- Whom the routes name, in any table: those whom some totally deadlocked set holds, and so the same.
+use mathlib.Core.Path.{_≡_, refl}
+use mathlib.Core.Logic.{_↔_}
+use Prim.Native.Nat.{ℕ, zero, suc, _≤_}
+use native.Mathlib.Omega.{arith}
+use Rattle.sets.specs.Set.{Has}
+use Rattle.deadlock.specs.Waiting.{TaskNamed, EventNamed, Stuck}
+use Rattle.deadlock.proofs.Theory.{stuck-named, named-stuck, named-events, events-named, named-held}
+use Rattle.hall.specs.Waiting.{BlockedOn, Impedes}
+use Rattle.hall.specs.declared.table.Table.{Table}
+use Rattle.judge.specs.Routes.{TaskRoute, EventRoute}
+use Rattle.judge.specs.Verdict.{ImpedesTask}
+use Rattle.judge.proofs.Sets.{same-members}
+
+module _ (t : Table) where
+  -- ---- demand 2: the named set is the set of tasks that some totally deadlocked set holds
+  pub task-stuck : (m : ℕ) → TaskRoute t m → (k : ℕ) → Has m k ↔ Stuck (BlockedOn t) (Impedes t) k
+  task-stuck m r k = (λ h. named-stuck (BlockedOn t) (Impedes t) k (r .iff k .0 h), λ s. r .iff k .1 (stuck-named (BlockedOn t) (Impedes t) k s))
+
+  pub task-event : (m : ℕ) → TaskRoute t m → EventRoute t m
+  task-event m r =
+      record { iff = λ k. (λ h. named-events (BlockedOn t) (Impedes t) k (r .iff k .0 h), λ w. r .iff k .1 (events-named (BlockedOn t) (Impedes t) k w)) }
+
+  pub event-task : (m : ℕ) → EventRoute t m → TaskRoute t m
+  event-task m r =
+      record { iff = λ k. (λ h. events-named (BlockedOn t) (Impedes t) k (r .iff k .0 h), λ w. r .iff k .1 (named-events (BlockedOn t) (Impedes t) k w)) }
+
+  pub event-stuck : (m : ℕ) → EventRoute t m → (k : ℕ) → Has m k ↔ Stuck (BlockedOn t) (Impedes t) k
+  event-stuck m r = task-stuck m (event-task m r)
+
+  -- ---- each promise fixes the set, and both routes have the same
+  pub task-one : (a b : ℕ) → TaskRoute t a → TaskRoute t b → a ≡ b
+  task-one a b x y = same-members (TaskNamed (BlockedOn t) (Impedes t)) a b (x .iff) (y .iff)
+
+  pub event-one : (a b : ℕ) → EventRoute t a → EventRoute t b → a ≡ b
+  event-one a b x y = same-members (EventNamed (BlockedOn t) (Impedes t)) a b (x .iff) (y .iff)
+
+  pub routes-one : (a b : ℕ) → TaskRoute t a → EventRoute t b → a ≡ b
+  routes-one a b x y = task-one a b x (event-task b y)
+
+  -- ---- what a route number says, by either route
+  pub by-route : (route m : ℕ) → route ≤ 1 → (route ≡ 0 → TaskRoute t m) → (route ≡ 1 → EventRoute t m) → TaskRoute t m
+  by-route zero m l x y = x refl
+  by-route (suc n) m l x y = event-task m (y (omega arith))
+
+  -- ---- a named task's event is impeded by a named task
+  pub named-impeded : (k : ℕ) → TaskNamed (BlockedOn t) (Impedes t) k → (u : ℕ) × TaskNamed (BlockedOn t) (Impedes t) u × ImpedesTask t k u
+  named-impeded k w =
+      let h = named-held (BlockedOn t) (Impedes t) k w in
+      (h .by, h .inside, record { event = h .event; waits = h .waits; impedes = h .impedes })

@@ -1,0 +1,59 @@
+use crate::event_route::event_route;
+use crate::ring::ring_of;
+use crate::task_route::task_route;
+use crate::verdict::Verdict;
+use deadlock::ring::Round;
+use hall::answers::DONE;
+use hall::answers::NOT_SOUND;
+use hall::table::Table;
+ghost use mathlib.Core.Path.{_≡_};
+ghost use mathlib.Core.Bool.{true};
+ghost use Rattle.judge.specs.Loops.{ByRoute};
+ghost use Rattle.judge.specs.Verdict.{verdictOf, Judged};
+
+// 22: the ring walk finds no named task to step to
+pub const NO_STEP: u32 = 22;
+
+// 41: route not 0 or 1
+pub const NO_ROUTE: u32 = 41;
+
+fn named_by(table: Table, route: u64) -> u32
+    ensures { λ r. ⌜ ByRoute table route r ⌝ }
+{
+    if route == 0 {
+        task_route(table)
+    } else {
+        event_route(table)
+    }
+}
+
+fn verdict(named: u32, round: Round) -> Verdict
+    ensures { λ r. ⌜ r ≡ verdictOf named round ⌝ }
+{
+    if round.closed {
+        let ring = round.tasks;
+        Verdict {
+            answer: DONE,
+            named,
+            count: sets::size(named),
+            length: round.length,
+            ring,
+        }
+    } else {
+        Verdict::nobody(NO_STEP)
+    }
+}
+
+// The verdict of a table by route 0, the task route, or 1, the event route.
+pub fn judge(table: Table, route: u64) -> Verdict
+    ensures { λ r. ⌜ Judged table route r ⌝ }
+{
+    if route > 1 {
+        return Verdict::nobody(NO_ROUTE);
+    }
+    if !table.is_sound() {
+        return Verdict::nobody(NOT_SOUND);
+    }
+    let named = named_by(table, route);
+    verdict(named, ring_of(table, named))
+}

@@ -1,0 +1,8 @@
+pub mod agreement;
+mod edges;
+pub mod event_route;
+pub mod judge;
+mod reading;
+mod ring;
+pub mod task_route;
+pub mod verdict;

@@ -1,0 +1,3 @@
+pub mod Laid
+pub mod ReadBack
+pub mod Small

@@ -1,0 +1,40 @@
+-- What stands in the strip after answer 0, read back, is the verdict.
+use mathlib.Core.Path.{_≡_, refl, sym, ap, _∙_}
+use mathlib.Core.List.{List, _++_, append-assoc}
+use Prim.Native.Nat.{ℕ, _+_, _*_, _/_, _%_, _^_, _<_}
+use native.Mathlib.Nat.{div-div-eq-div-mul}
+use native.Mathlib.Omega.{arith}
+use lib.ListN.{length, take, drop}
+use lib.Seq.{take-at}
+use borrow.Author.Tests.{eq-eqb}
+use Rattle.hall.specs.Answers.{done}
+use Rattle.judge.specs.declared.verdict.Verdict.{Verdict}
+use Rattle.mollavisce.specs.Strip.{stripOf, stripAfter, verdictIn}
+
+byte : (q : ℕ) → q ≡ q / 256 * 256 + q % 256
+byte q = omega arith
+
+-- a number of four bytes is what its bytes say
+bytes-of : (m : ℕ) → m < 2 ^ 32 → m % 256 + m / 256 % 256 * 256 + m / 65536 % 256 * 65536 + m / 16777216 % 256 * 16777216 ≡ m
+bytes-of m h =
+    join m (m / 256) (m / 65536) (m / 16777216) (m % 256) (m / 256 % 256) (m / 65536 % 256) (m / 16777216 % 256) (byte m)
+    (rw (div-div-eq-div-mul m 256 256) at (byte (m / 256))) (rw (div-div-eq-div-mul m 65536 256) at (byte (m / 65536))) (omega arith)
+  where
+    join : (m q1 q2 q3 r0 r1 r2 r3 : ℕ) → m ≡ q1 * 256 + r0 → q1 ≡ q2 * 256 + r1 → q2 ≡ q3 * 256 + r2 → q3 ≡ r3
+        → r0 + r1 * 256 + r2 * 65536 + r3 * 16777216 ≡ m
+    join m q1 q2 q3 r0 r1 r2 r3 a b c d = omega arith
+
+module _ (v : Verdict) (fits : v .named < 2 ^ 32) (places : length (v .ring) ≡ 32) (accepted : v .answer ≡ done) where
+  pub strip-read : (rest : List ℕ) → verdictIn (stripOf v ++ rest) ≡ v
+  unfolding stripOf verdictIn
+  strip-read rest = λ i. record {
+    answer = sym accepted i;
+    named = bytes-of (v .named) fits i;
+    count = v .count;
+    length = v .length;
+    ring = take-at (v .ring) rest 32 places i;
+  }
+
+  pub read-back : (strip : List ℕ) → verdictIn (stripAfter v strip) ≡ v
+  unfolding stripAfter
+  read-back strip = rw (eq-eqb (v .answer) done accepted) (strip-read (drop 38 strip))

@@ -1,0 +1,62 @@
+-- 41, then 40, both with the strip as it was; then the verdict's answer, and its bytes where that is 0.
+use mathlib.Core.Path.{_≡_, refl, ap, sym, _∙_}
+use Prim.Native.Nat.{_≤_, _<_, _^_}
+use native.Mathlib.Omega.{arith}
+use borrow.Author.Needs.{needs}
+use borrow.Author.Tests.{eq-eqb, ne-eqb}
+use Rattle.mollavisce.specs.Strip.{stripAfter}
+use Rattle.mollavisce.proofs.Small.{sheet-small}
+use Rattle.mollavisce.proofs.entry.sheet_verdict.Statement.{statement}
+use Rattle.mollavisce.proofs.entry.sheet_verdict.Tie as tie
+
+returns : tie.Need-returns
+returns c = record {
+  no-route = λ _. (refl, refl);
+  short = λ l _. absurd (omega (arith, l, c .if1 .taken));
+  judged = λ l _. absurd (omega (arith, l, c .if1 .taken));
+}
+
+returns-2 : tie.Need-returns-2
+returns-2 c = record {
+  no-route = λ l. absurd (omega (arith, l, c .before .if1 .left));
+  short = λ _ _. (refl, refl);
+  judged = λ _ l. absurd (omega (arith, l, c .if2 .taken));
+}
+
+verdict-of-requires : tie.Need-verdict-of-requires
+verdict-of-requires c κs = search needs
+
+returns-3 : tie.Need-returns-3
+unfolding stripAfter
+returns-3 c = record {
+  no-route = λ l. absurd (omega (arith, l, c .before .before .before .if1 .left));
+  short = λ _ l. absurd (omega (arith, l, c .before .before .if2 .left));
+  judged = λ _ _. (c .before .verdict-of .result, c .before .verdict-of .ensures, refl, rw (ne-eqb _ _ (c .if3 .taken)) refl);
+}
+
+lay-requires : tie.Need-lay-requires
+lay-requires c κs =
+    let v = c .before .before .verdict-of in
+    let fits : v .result .named < 2 ^ 32 = search needs in
+    let route : c .before .before .before .before .before .before .before .args .route ≤ 1 = search needs in
+    let small = sheet-small _ _ (v .result) route fits (v .ensures) (c .before .if3 .left) in
+    (search needs, small .0, small .1)
+
+same-length : tie.Need-same-length
+same-length c = search needs
+
+returns-4 : tie.Need-returns-4
+unfolding stripAfter
+returns-4 c =
+    let v = c .before .before .before .before .before .verdict-of in
+    let answered = c .before .before .before .before .if3 .left in
+    record {
+      no-route = λ l. absurd (omega (arith, l, c .before .before .before .before .before .before .before .if1 .left));
+      short = λ _ l. absurd (omega (arith, l, c .before .before .before .before .before .before .if2 .left));
+      judged = λ _ _. (v .result, v .ensures, sym answered, rw (eq-eqb _ _ answered) (c .before .before .lay .ensures));
+    }
+
+pub sheet-verdict-spec : {M : Type 1} → statement M
+sheet-verdict-spec =
+    tie.close
+    (tie.spec returns returns-2 verdict-of-requires returns-3 lay-requires same-length returns-4)

@@ -1,0 +1,27 @@
+-- The verdict of a sheet, and the entry for a C++ host (document 01, 'The hall sheet').
+use mathlib.Core.Path.{_≡_}
+use mathlib.Core.List.{List}
+use Prim.Native.Nat.{ℕ, _<_, _≤_}
+use lib.ListN.{length}
+use Rattle.hall.specs.Answers.{done}
+use Rattle.judge.specs.Verdict.{nobody, noRoute, Judged}
+use Rattle.judge.specs.declared.verdict.Verdict.{Verdict}
+use Rattle.mollavisce.specs.Strip.{stripAfter}
+use Rattle.sheet.specs.Fields.{sheetAt}
+
+-- 40: answer strip under 38 bytes
+abbrev pub shortStrip : ℕ
+shortStrip = 40
+
+-- the route is tested first, then the sheet; then it is the judge's verdict of the table that was read
+pub record SheetJudged (sheet : List ℕ) (route : ℕ) (v : Verdict) : Type 0 where
+  pub no-route : 1 < route → v ≡ nobody noRoute
+  pub refused : route ≤ 1 → (sheetAt sheet .answer ≡ done → ⊥) → v ≡ nobody (sheetAt sheet .answer)
+  pub judged : route ≤ 1 → sheetAt sheet .answer ≡ done → Judged (sheetAt sheet .table) route v
+
+-- "Tests: 41, 40, then the sheet." The answer, and every byte of the strip after it
+pub record Entered (sheet : List ℕ) (route : ℕ) (before after : List ℕ) (answer : ℕ) : Type 0 where
+  pub no-route : 1 < route → (answer ≡ noRoute) × (after ≡ before)
+  pub short : route ≤ 1 → length before < 38 → (answer ≡ shortStrip) × (after ≡ before)
+  pub judged : route ≤ 1 → 38 ≤ length before
+      → (v : Verdict) × SheetJudged sheet route v × (answer ≡ v .answer) × (after ≡ stripAfter v before)

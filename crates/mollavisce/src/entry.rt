@@ -1,0 +1,45 @@
+// The verdict of a sheet, and the entry for a C++ host.
+use judge::judge::NO_ROUTE;
+use judge::judge::judge;
+use judge::verdict::Verdict;
+use sheet::reader::read;
+ghost use Rattle.mollavisce.specs.Entry.{SheetJudged, Entered};
+
+// Answer strip under 38 bytes.
+pub const SHORT_STRIP: u32 = 40;
+
+// What the judge says of the table that a sheet holds.
+pub fn verdict_of(bytes: &[u8], route: u64) -> Verdict
+    ensures { λ r. ⌜ SheetJudged (now (bytes .entry)) route r ⌝ }
+{
+    if route > 1 {
+        return Verdict::nobody(NO_ROUTE);
+    }
+    let held = read(bytes);
+    let answer = held.answer;
+    if answer != 0 {
+        return Verdict::nobody(answer);
+    }
+    let table = held.table;
+    judge(table, route)
+}
+
+// One lent slice is read as the sheet, the other is written with 38 bytes where the answer is 0, and else with none.
+#[no_mangle]
+pub extern "C" fn sheet_verdict(sheet: &[u8], route: u64, strip: &mut [u8]) -> u32
+    ensures { λ r. ⌜ Entered (now (sheet .entry)) route (now (strip .entry)) (now (strip .exit)) r ⌝ }
+{
+    if route > 1 {
+        return NO_ROUTE;
+    }
+    if strip.len() < 38 {
+        return SHORT_STRIP;
+    }
+    let verdict = verdict_of(sheet, route);
+    let answer = verdict.answer;
+    if answer != 0 {
+        return answer;
+    }
+    crate::strip::lay(strip, verdict);
+    0
+}

@@ -1,0 +1,2 @@
+pub mod entry;
+mod strip;

@@ -1,0 +1,6 @@
+pub mod Bits
+pub mod Members
+pub mod Sizes
+pub mod Least
+pub mod Loops
+pub mod One

@@ -1,0 +1,80 @@
+-- Loops over a set that take the lowest task out of what is left, and loops that put a set together: what each knows, its start, its steps, its end.
+use mathlib.Core.Path.{_≡_, sym, subst}
+use mathlib.Core.Logic.{_↔_, _⊎_, inl, inr, ⊎-elim}
+use Prim.Native.Nat.{ℕ, _+_, _<_}
+use native.Mathlib.Decide.{ℕ-discrete}
+use native.Mathlib.Omega.{arith}
+use Rattle.sets.specs.Set.{Has, Least}
+use Rattle.sets.proofs.Members.{Put, Taken, none-has, taken-out}
+
+module _ (P : ℕ → Type 0) where
+  -- ---- keep those with P: `kept` has those of `among` with P, and of the rest only what is `left` to look at
+  pub record Sifted (among kept left : ℕ) : Type 0 where
+    pub inside : (k : ℕ) → Has kept k → Has among k
+    pub keeps : (k : ℕ) → Has among k → P k → Has kept k
+    pub seen : (k : ℕ) → Has kept k → (Has left k → ⊥) → P k
+
+  pub sift-start : (among : ℕ) → Sifted among among among
+  sift-start among = record { inside = λ k h. h; keeps = λ k h p. h; seen = λ k h n. absurd (n h) }
+
+  module _ (among kept left t rest : ℕ) (g : Sifted among kept left) (taken : Taken left t rest) where
+    -- `less` is `kept`, without t unless P holds of it
+    pub sift-more : (less : ℕ) → ((k : ℕ) → Has less k ↔ (Has kept k × (k ≡ t → P t))) → Sifted among less rest
+    sift-more less out = record {
+      inside = λ k h. g .inside k (out k .0 h .0);
+      keeps = λ k h p. out k .1 (g .keeps k h p, λ e. subst P e p);
+      seen = λ k h n. ⊎-elim (λ e. subst P (sym e) (out k .0 h .1 e)) (g .seen k (out k .0 h .0)) (taken-out left t rest k taken n);
+    }
+
+    pub sift-keep : P t → Sifted among kept rest
+    sift-keep p = sift-more kept (λ k. (λ h. (h, λ e. p), λ h. h .0))
+
+    pub sift-drop : (P t → ⊥) → (less : ℕ) → Taken kept t less → Sifted among less rest
+    sift-drop ne less out = sift-more less (λ k. (λ h. (out k .0 h .0, λ e. absurd (out k .0 h .1 e)), λ h. out k .1 (h .0, λ e. ne (h .1 e))))
+
+  pub sift-done : (among kept : ℕ) → Sifted among kept 0 → (k : ℕ) → Has kept k ↔ (Has among k × P k)
+  sift-done among kept g k = (λ h. (g .inside k h, g .seen k h (none-has k)), λ h. g .keeps k (h .0) (h .1))
+
+  -- ---- look for the lowest with P: it is among what is `left`
+  pub record Sought (among left : ℕ) : Type 0 where
+    pub inside : (k : ℕ) → Has left k → Has among k
+    pub ahead : (k : ℕ) → Has among k → P k → Has left k
+
+  pub seek-start : (among : ℕ) → Sought among among
+  seek-start among = record { inside = λ k h. h; ahead = λ k h p. h }
+
+  pub seek-miss : (among left t rest : ℕ) → Sought among left → Taken left t rest → (P t → ⊥) → Sought among rest
+  seek-miss among left t rest g taken ne =
+      record { inside = λ k h. g .inside k (taken k .0 h .0); ahead = λ k h p. taken k .1 (g .ahead k h p, λ e. ne (subst P e p)) }
+
+  pub seek-hit : (among left t : ℕ) → Sought among left → Least (Has left) t → P t → Least (λ k. Has among k × P k) t
+  seek-hit among left t g l p = record { holds = (g .inside t (l .holds), p); lowest = λ k h. l .lowest k (g .ahead k (h .0) (h .1)) }
+
+  pub seek-none : (among : ℕ) → Sought among 0 → (k : ℕ) → Has among k → P k → ⊥
+  seek-none among g k h p = none-has k (g .ahead k h p)
+
+  -- ---- put a set together from the bottom: `m` has those below n with P
+  pub record Built (m n : ℕ) : Type 0 where
+    pub iff : (k : ℕ) → Has m k ↔ ((k < n) × P k)
+
+  pub build-start : Built 0 0
+  build-start = record { iff = λ k. (λ h. absurd (none-has k h), λ h. absurd (omega arith)) }
+
+  module _ (m n : ℕ) (g : Built m n) where
+    pub build-put : n < 32 → P n → (r : ℕ) → Put m n r → Built r (n + 1)
+    build-put l p r put = record { iff = λ k. (λ h. into k (put k .0 h), λ h. from k h (ℕ-discrete k n)) }
+      where
+        into : (k : ℕ) → Has m k ⊎ ((k < 32) × (k ≡ n)) → (k < n + 1) × P k
+        into k (inl h) = let q = g .iff k .0 h in (omega arith, q .1)
+        into k (inr e) = (omega arith, subst P (sym (e .1)) p)
+
+        from : (k : ℕ) → (k < n + 1) × P k → Dec (k ≡ n) → Has r k
+        from k h (yes e) = put k .1 (inr (omega arith, e))
+        from k h (no e) = put k .1 (inl (g .iff k .1 (omega arith, h .1)))
+
+    pub build-skip : (P n → ⊥) → Built m (n + 1)
+    build-skip ne = record { iff = λ k. (λ h. let q = g .iff k .0 h in (omega arith, q .1), λ h. from k h (ℕ-discrete k n)) }
+      where
+        from : (k : ℕ) → (k < n + 1) × P k → Dec (k ≡ n) → Has m k
+        from k h (yes e) = absurd (ne (subst P e (h .1)))
+        from k h (no e) = g .iff k .1 (omega arith, h .1)

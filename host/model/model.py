@@ -1,0 +1,580 @@
+#!/usr/bin/env python3
+"""Document 01 in plain Python: a model that shares nothing with the library, for outputs to compare with.
+
+  model.py verdict < SHEET       what `sheetverdict` prints
+  model.py odd-numbers           the calls of the odd-numbers run, with answers and values
+  model.py sheets                the sheets of the sheets run, with verdicts
+  model.py vectors SEED COUNT    random and damaged sheets: sheet, answer and strip, in hex (for `check -`)
+  model.py samples FOLDER        judges every *.sheet there
+  model.py test                  the bench cases, and the judge against every set of tasks
+
+Sections stand in document 01's order, and quoted words are its own.
+"""
+import itertools
+import os
+import random
+import sys
+
+TASKS, PHASERS, LARGEST_PHASE, GROUPS = 32, 16, 65535, 3
+
+# ---- The table
+
+FREE, RUNNING = "free", "running"  # a blocked task's state is its event, a pair (phaser, phase)
+
+
+class Table:
+    """A fresh table has no task and no open phaser."""
+
+    def __init__(self):
+        self.state = [FREE] * TASKS
+        self.opened = [False] * PHASERS
+        self.phase = [[0] * PHASERS for _ in range(TASKS)]
+        self.member = [[False] * PHASERS for _ in range(TASKS)]
+
+    def copy(self):
+        other = Table()
+        other.state, other.opened = self.state[:], self.opened[:]
+        other.phase, other.member = [row[:] for row in self.phase], [row[:] for row in self.member]
+        return other
+
+    def blocked(self, task):
+        return self.state[task] not in (FREE, RUNNING)
+
+    def members(self, phaser):
+        return [t for t in range(TASKS) if self.member[t][phaser]]
+
+
+def sound(t):
+    entries = list(itertools.product(range(TASKS), range(PHASERS)))
+    awaited = [t.state[k] for k in range(TASKS) if t.blocked(k)]
+    return (
+        all(t.state[k] != FREE and t.opened[p] for k, p in entries if t.member[k][p])
+        and all(p < PHASERS and t.opened[p] for p, _ in awaited)
+        and all(t.phase[k][p] <= LARGEST_PHASE for k, p in entries)
+        and all(n <= LARGEST_PHASE for _, n in awaited)
+        and all(t.phase[k][p] == 0 for k, p in entries if not t.member[k][p])
+    )
+
+
+def impedes(t, task, event):
+    """'A member with a phase less than n impedes event (p, n). Equal does not impede.'"""
+    p, n = event
+    return t.member[task][p] and t.phase[task][p] < n
+
+
+# ---- The ten calls
+
+
+class Refused(Exception):
+    """Its argument is the answer number."""
+
+
+def ask(holds, answer):
+    if not holds:
+        raise Refused(answer)
+
+
+def live(t, task):
+    return task < TASKS and t.state[task] != FREE
+
+
+def running_task(t, task):
+    ask(live(t, task), 10)
+    ask(not t.blocked(task), 12)
+
+
+def open_phaser_number(t, phaser):
+    ask(phaser < PHASERS and t.opened[phaser], 11)
+
+
+def open_task(t, task, phaser, other):
+    free = [k for k in range(TASKS) if t.state[k] == FREE]
+    ask(free, 16)
+    t.state[free[0]] = RUNNING
+    return 0, free[0]
+
+
+def end_task(t, task, phaser, other):
+    running_task(t, task)
+    t.state[task] = FREE
+    t.phase[task], t.member[task] = [0] * PHASERS, [False] * PHASERS
+    return 0, 0
+
+
+def open_phaser(t, task, phaser, other):
+    running_task(t, task)
+    unopened = [p for p in range(PHASERS) if not t.opened[p]]
+    ask(unopened, 16)
+    t.opened[unopened[0]] = True
+    t.member[task][unopened[0]], t.phase[task][unopened[0]] = True, 0
+    return 0, unopened[0]
+
+
+def close_phaser(t, task, phaser, other):
+    open_phaser_number(t, phaser)
+    ask(not t.members(phaser) and not any(t.blocked(k) and t.state[k][0] == phaser for k in range(TASKS)), 19)
+    t.opened[phaser] = False
+    return 0, 0
+
+
+def caller_member(t, task, phaser):
+    running_task(t, task)
+    open_phaser_number(t, phaser)
+    ask(t.member[task][phaser], 13)
+
+
+def admit(t, task, phaser, target):
+    caller_member(t, task, phaser)
+    ask(live(t, target), 10)
+    ask(not t.blocked(target), 20)
+    ask(not t.member[target][phaser], 14)
+    t.member[target][phaser], t.phase[target][phaser] = True, t.phase[task][phaser]
+    return 0, t.phase[task][phaser]
+
+
+def leave(t, task, phaser, other):
+    caller_member(t, task, phaser)
+    t.member[task][phaser], t.phase[task][phaser] = False, 0
+    return 0, 0
+
+
+def arrive(t, task, phaser, other):
+    caller_member(t, task, phaser)
+    ask(t.phase[task][phaser] + 1 <= LARGEST_PHASE, 15)
+    t.phase[task][phaser] += 1
+    return 0, t.phase[task][phaser]
+
+
+def wait_own(t, task, phaser, other):
+    caller_member(t, task, phaser)
+    return wait_stated(t, task, phaser, t.phase[task][phaser])
+
+
+def wait_stated(t, task, phaser, phase):
+    running_task(t, task)
+    open_phaser_number(t, phaser)
+    ask(phase <= LARGEST_PHASE, 15)
+    if all(t.phase[k][phaser] >= phase for k in t.members(phaser)):
+        return 1, 0
+    t.state[task] = (phaser, phase)
+    return 2, 0
+
+
+def release(t, task, phaser, other):
+    ask(live(t, task), 10)
+    ask(t.blocked(task), 17)
+    p, n = t.state[task]
+    ask(all(t.phase[k][p] >= n for k in t.members(p)), 18)
+    t.state[task] = RUNNING
+    return 0, 0
+
+
+KINDS = [open_task, end_task, open_phaser, close_phaser, admit, leave, arrive, wait_own, wait_stated, release]
+
+
+def call(t, kind, task=0, phaser=0, other=0):
+    """Answer, value and next table."""
+    try:
+        ask(kind < len(KINDS), 42)
+        ask(sound(t), 44)
+        after = t.copy()
+        answer, value = KINDS[kind](after, task, phaser, other)
+        return answer, value, after
+    except Refused as refusal:
+        return refusal.args[0], 0, t
+
+
+# ---- Stuck
+
+
+def totally_deadlocked(t, tasks):
+    return bool(tasks) and all(t.blocked(k) and any(impedes(t, u, t.state[k]) for u in tasks) for k in tasks)
+
+
+def named_by_sets(t):
+    """Every set there is, one by one."""
+    blocked = [k for k in range(TASKS) if t.blocked(k)]
+    sets = (s for n in range(len(blocked) + 1) for s in itertools.combinations(blocked, n))
+    return set().union(*(s for s in sets if totally_deadlocked(t, s)))
+
+
+def with_endless_walk(nodes, edge):
+    """An endless walk exists where a walk of as many steps as there are nodes does."""
+    ways = {a: [b for b in nodes if edge(a, b)] for a in nodes}
+    able = set(nodes)
+    for _ in nodes:
+        able = {a for a in nodes if any(b in able for b in ways[a])}
+    return able
+
+
+def named_by_tasks(t):
+    return with_endless_walk([k for k in range(TASKS) if t.blocked(k)], lambda a, b: impedes(t, b, t.state[a]))
+
+
+def named_by_events(t):
+    blocked = [k for k in range(TASKS) if t.blocked(k)]
+    able = with_endless_walk(
+        sorted({t.state[k] for k in blocked}),
+        lambda e, f: any(t.state[k] == f and impedes(t, k, e) for k in blocked),
+    )
+    return {k for k in blocked if t.state[k] in able}
+
+
+def ring_of(t, named):
+    walk = [min(named)] if named else []
+    while walk:
+        ways = [u for u in sorted(named) if impedes(t, u, t.state[walk[-1]])]
+        ask(ways, 22)
+        if ways[0] in walk:
+            ring = walk[walk.index(ways[0]) :]
+            turn = ring.index(min(ring))
+            return ring[turn:] + ring[:turn]
+        walk.append(ways[0])
+    return []
+
+
+# ---- The hall sheet
+
+
+class Sheet:
+    def __init__(self, data):
+        self.data, self.at = data, 0
+
+    def number(self, largest=None):
+        value = 0
+        for group in range(GROUPS):
+            ask(self.at < len(self.data), 30)
+            byte = self.data[self.at]
+            self.at += 1
+            value += byte % 128 * 128**group
+            if byte < 128:
+                ask(group == 0 or byte != 0, 31)
+                ask(largest is None or value <= largest, 32)
+                return value
+        raise Refused(32)
+
+    def rising(self, before, largest):
+        value = self.number(largest)
+        ask(not before or before[-1] < value, 33)
+        before.append(value)
+        return value
+
+    def open_phaser(self, t, before=None):
+        p = self.number(PHASERS - 1) if before is None else self.rising(before, PHASERS - 1)
+        ask(t.opened[p], 36)
+        return p
+
+    def task(self, t, numbers):
+        k = self.rising(numbers, TASKS - 1)
+        state = self.number()
+        ask(state in (0, 1), 34)
+        t.state[k] = (self.open_phaser(t), self.number(LARGEST_PHASE)) if state else RUNNING
+        phasers = []
+        for _ in range(self.number(PHASERS)):
+            p = self.open_phaser(t, phasers)
+            t.phase[k][p], t.member[k][p] = self.number(LARGEST_PHASE), True
+
+    def table(self):
+        t = Table()
+        ask(self.number() == 1, 34)
+        phasers, numbers = [], []
+        for _ in range(self.number(PHASERS)):
+            t.opened[self.rising(phasers, PHASERS - 1)] = True
+        for _ in range(self.number(TASKS)):
+            self.task(t, numbers)
+        ask(self.at == len(self.data), 35)
+        return t
+
+
+def groups(value):
+    return bytes([value]) if value < 128 else bytes([128 + value % 128]) + groups(value // 128)
+
+
+def sheet_of(t):
+    phasers = [p for p in range(PHASERS) if t.opened[p]]
+    tasks = [k for k in range(TASKS) if t.state[k] != FREE]
+    fields = [1, len(phasers), *phasers, len(tasks)]
+    for k in tasks:
+        mine = [p for p in range(PHASERS) if t.member[k][p]]
+        fields += [k, 1, *t.state[k]] if t.blocked(k) else [k, 0]
+        fields += [len(mine)] + [x for p in mine for x in (p, t.phase[k][p])]
+    return b"".join(map(groups, fields))
+
+
+NOBODY = bytes(6) + b"\xff" * 32
+
+
+def judge(t, route):
+    """Answer and what the strip would hold."""
+    try:
+        ask(route in (0, 1), 41)
+        ask(sound(t), 44)
+        named = (named_by_tasks, named_by_events)[route](t)
+        ring = ring_of(t, named)
+        mask = sum(2**k for k in named)
+        return 0, mask.to_bytes(4, "little") + bytes([len(named), len(ring), *ring]) + b"\xff" * (32 - len(ring))
+    except Refused as refusal:
+        return refusal.args[0], NOBODY
+
+
+def sheet_verdict(data, route=0, strip=NOBODY):
+    """Answer and the strip as it stands afterwards."""
+    try:
+        ask(route in (0, 1), 41)
+        ask(len(strip) >= 38, 40)
+        answer, written = judge(Sheet(data).table(), route)
+        return answer, strip if answer else written + strip[38:]
+    except Refused as refusal:
+        return refusal.args[0], strip
+
+
+def told(strip):
+    """Mask, named tasks and ring of a strip."""
+    mask = int.from_bytes(strip[:4], "little")
+    return mask, [k for k in range(TASKS) if mask >> k & 1], list(strip[6 : 6 + strip[5]])
+
+
+def verdict_lines(data):
+    answer, strip = sheet_verdict(data)
+    lines = [f"answer {answer}"]
+    if answer == 0:
+        _, named, ring = told(strip)
+        lines += ["".join([word] + [f" {k}" for k in tasks]) for word, tasks in (("named", named), ("ring", ring))]
+    return lines
+
+
+# ---- Bench cases
+
+
+def table(phasers, waits, members, running=()):
+    """waits: task → event; members: phaser → {task: phase}."""
+    t = Table()
+    for p in phasers:
+        t.opened[p] = True
+    for k in running:
+        t.state[k] = RUNNING
+    for k, event in waits.items():
+        t.state[k] = event
+    for p, row in members.items():
+        for k, n in row.items():
+            t.member[k][p], t.phase[k][p] = True, n
+    return t
+
+
+P4 = table([0, 1], {0: (0, 1), 1: (1, 1)}, {0: {0: 1, 1: 0}, 1: {0: 0, 1: 1}})
+BENCH = {  # case: table, named, ring
+    "P1": (Table(), [], []),
+    "P2": (table([0], {0: (0, 1)}, {0: {0: 0}}), [0], [0]),
+    "P3": (table([0], {0: (0, 1)}, {0: {0: 1, 1: 0}}, [1]), [], []),
+    "P4": (P4, [0, 1], [0, 1]),
+    "P5": (table([0, 1], {0: (0, 1), 1: (1, 1)}, {0: {0: 1, 1: 0}, 1: {0: 1, 1: 1}}), [], []),
+    "P6": (table([0, 1], {0: (0, 1), 1: (1, 1), 2: (0, 1)}, {0: {0: 1, 1: 0, 2: 1}, 1: {0: 0, 1: 1}}), [0, 1, 2], [0, 1]),
+    "P7": (table([0, 1], {0: (0, 2), 1: (1, 1)}, {0: {0: 2, 1: 2, 2: 0}, 1: {0: 0, 1: 1, 2: 0}}, [2]), [], []),
+    "P8": (
+        table([0, 1, 2], {0: (0, 2), 1: (1, 1), 2: (2, 1)}, {0: {0: 2, 1: 2, 2: 0}, 1: {0: 0, 1: 1, 2: 0}, 2: {2: 0}}),
+        [0, 1, 2],
+        [2],
+    ),
+    "P9": (table([0, 1], {0: (0, 1), 1: (1, 1)}, {0: {0: 1, 1: 0, 2: 0}, 1: {1: 0}}, [2]), [0, 1], [1]),
+}
+
+
+# ---- The odd-numbers run: see `odd_numbers` for the series and the order of the loops
+
+ODD = [0, 1, 15, 16, 31, 32, 255, 256, 65535, 65536, 2**32 - 1, 2**32, 2**32 + 3, 2**63, 2**64 - 1]
+
+# Reached from a fresh table, each call accepted: task 0 runs, a member; 1 is blocked and its wait is met; 15 is blocked and its
+# wait is not; 16 is free; 31 runs, a member of nothing. Phaser 0 has members; 1 has none and is awaited; 7 is not open; 15 has none.
+SERIES = (
+    [(0, 0, 0, 0)] * 32  # tasks 0 to 31
+    + [(1, 16, 0, 0)]  # task 16 is free again
+    + [(2, 0, 0, 0)] * 16  # phasers 0 to 15, task 0 a member of each at phase 0
+    + [(5, 0, 7, 0), (3, 0, 7, 0)]  # task 0 leaves phaser 7, which is closed
+    + [(4, 0, 0, 2), (6, 0, 0, 0)]  # task 2 joins phaser 0 at phase 0; task 0 arrives there: 0: 0@1, 2@0
+    + [(8, 1, 1, 1), (5, 0, 1, 0)]  # task 1 waits (1, 1), impeded by task 0, who then leaves phaser 1
+    + [(8, 15, 0, 1)]  # task 15 waits (0, 1), impeded by task 2
+    + [(5, 0, 15, 0)]  # task 0 leaves phaser 15
+)
+
+# For each kind, the task, phaser and other number that are accepted from there; kind 10 is none.
+ACCEPTED = [
+    (0, 0, 0),
+    (0, 0, 0),
+    (0, 0, 0),
+    (0, 15, 0),
+    (0, 0, 31),
+    (0, 0, 0),
+    (0, 0, 0),
+    (0, 2, 0),
+    (0, 0, 1),
+    (1, 0, 0),
+    (0, 0, 0),
+]
+
+
+def odd_table():
+    t = Table()
+    for numbers in SERIES:
+        answer, _, t = call(t, *numbers)
+        assert answer < 10, numbers
+    return t
+
+
+def odd_numbers():
+    """Each call starts from the table of SERIES. For each kind 0 to 10, for each place (task, phaser, other), for each odd number:
+    the call with the number in that place and ACCEPTED's in the two others. Then each odd number as the kind, with 0, 0 and 31."""
+    t = odd_table()
+    for kind, accepted in enumerate(ACCEPTED):
+        for place in range(3):
+            for odd in ODD:
+                numbers = list(accepted)
+                numbers[place] = odd
+                yield (kind, *numbers, *call(t, kind, *numbers)[:2])
+    for kind in ODD:
+        yield (kind, 0, 0, 31, *call(t, kind, 0, 0, 31)[:2])
+
+
+# ---- The sheets run: see `sheets` for the damages and the order
+
+WIDE = table([3, 15], {9: (3, 300), 31: (15, 65535)}, {3: {9: 16384, 31: 299}, 15: {7: 128, 9: 65534, 31: 65535}}, [7])
+BASE = [sheet_of(t) for t in [Table()] + [BENCH[p][0] for p in ("P2", "P4", "P6", "P8", "P9")] + [WIDE]]
+
+
+def sheets():
+    """For each base sheet, for each damage, for each place: base, damage, place, answer and, if that is 0, mask, count, the ring's
+    length and the ring. The route is the place's remainder by 2. Damages: 0 none (places 0 and 1); 1 the first so many bytes, for
+    each place below the length; 2 to 5, for each place below the length, the byte b there replaced by (b + 128) % 256,
+    (b + 1) % 256, 0 and 255; 6 the byte `place` added at the end (places 0 and 1)."""
+    for number, base in enumerate(BASE):
+        for damage in range(7):
+            for place in range(2 if damage in (0, 6) else len(base)):
+                if damage == 1:
+                    data = base[:place]
+                elif damage == 6:
+                    data = base + bytes([place])
+                else:
+                    data = bytearray(base)
+                    if damage:
+                        data[place] = ((data[place] + 128) % 256, (data[place] + 1) % 256, 0, 255)[damage - 2]
+                answer, strip = sheet_verdict(bytes(data), place % 2)
+                mask, named, ring = told(strip)
+                yield (number, damage, place, answer) if answer else (number, damage, place, 0, mask, len(named), len(ring), *ring)
+
+
+# ---- Random sheets
+
+
+def random_table(rand, tasks=TASKS):
+    t = Table()
+    reach = rand.choice([1, 2, 3, 130, LARGEST_PHASE])
+    phasers = rand.sample(range(PHASERS), rand.randint(0, rand.choice([2, 4, PHASERS])))
+    blocked, joined = rand.random(), rand.random() ** 2
+    for p in phasers:
+        t.opened[p] = True
+    for k in rand.sample(range(TASKS), rand.randint(0, tasks)):
+        t.state[k] = (rand.choice(phasers), rand.randint(0, reach)) if phasers and rand.random() < blocked else RUNNING
+        for p in phasers:
+            if rand.random() < joined:
+                t.member[k][p], t.phase[k][p] = True, rand.randint(0, reach)
+    return t
+
+
+def stepping_table(rand):
+    """All 32 tasks blocked, each impeded first by a task drawn at random: on phaser p task 2p is at phase 1, task 2p + 1 at 0."""
+    t = Table()
+    t.opened = [True] * PHASERS
+    for k in range(TASKS):
+        u = rand.randrange(TASKS)
+        t.state[k] = (u // 2, 2 - u % 2)
+        t.member[k][k // 2], t.phase[k][k // 2] = True, 1 - k % 2
+    return t
+
+
+def damaged(rand, data):
+    at, odd = rand.randrange(len(data)), rand.choice([0, 1, 2, 15, 16, 31, 32, 127, 128, 255, rand.randrange(256)])
+    return rand.choice(
+        [
+            data,
+            data[:at],
+            data[:at] + bytes([odd]) + data[at + 1 :],
+            data[:at] + bytes([odd]) + data[at:],
+            data[:at] + data[at + 1 :],
+            data + bytes([odd]),
+        ]
+    )
+
+
+def vectors(seed, count):
+    rand = random.Random(seed)
+    for _ in range(count):
+        data = sheet_of(stepping_table(rand) if rand.random() < 0.1 else random_table(rand))
+        data = data if rand.random() < 0.3 else damaged(rand, data)
+        answer, strip = sheet_verdict(data, rand.randrange(2))
+        yield data.hex() or "-", answer, strip.hex()
+
+
+# ---- The model against document 01's own figures, and against every set of tasks
+
+
+def test():
+    for case, (t, named, ring) in BENCH.items():
+        data = sheet_of(t)
+        strips = [sheet_verdict(data, route) for route in (0, 1)]
+        assert all(answer == 0 and told(strip)[1:] == (named, ring) for answer, strip in strips), case
+    assert sheet_of(P4).hex(" ") == "01 02 00 01 02 00 01 00 01 02 00 01 01 00 01 01 01 01 02 00 00 01 01"
+    assert sheet_verdict(sheet_of(P4))[1] == bytes.fromhex("0300000002020001") + b"\xff" * 30
+    assert verdict_lines(sheet_of(P4)) == ["answer 0", "named 0 1", "ring 0 1"]
+    assert sheet_of(Table()).hex(" ") == "01 00 00" and verdict_lines(b"") == ["answer 30"]
+    t = Table()  # P10, P11
+    for _ in range(32):
+        _, _, t = call(t, 0)
+    assert call(t, 0)[:2] == (16, 0) and call(call(t, 1, 4)[2], 0)[:2] == (0, 4)
+    _, _, t = call(t, 2)
+    t.phase[0][0] = 65534
+    assert call(t, 6)[:2] == (0, 65535) and call(call(t, 6)[2], 6)[:2] == (15, 0) and call(t, 8, 0, 0, 65536)[:2] == (15, 0)
+    assert [Sheet(bytes.fromhex(h)).number() for h in ("ac02", "ffff03")] == [300, 65535]  # P12
+    for hex_bytes, answer in (("8000", 31), ("808004", 32)):
+        try:
+            Sheet(bytes.fromhex(hex_bytes)).number(LARGEST_PHASE)
+            assert False
+        except Refused as refusal:
+            assert refusal.args[0] == answer
+    full = table(range(16), {k: (15, 65535) for k in range(32)}, {p: {k: 65535 for k in range(32)} for p in range(16)})
+    assert len(sheet_of(full)) == 2291
+
+    rand, stuck = random.Random(1), 0
+    for _ in range(3000):
+        t = random_table(rand, 9)
+        named = named_by_sets(t)
+        assert sound(t) and named == named_by_tasks(t) == named_by_events(t)
+        back = Sheet(sheet_of(t)).table()
+        assert vars(back) == vars(t)
+        stuck += bool(named)
+        kind, numbers = rand.randrange(11), [rand.choice(ODD[:6] + list(range(9))) for _ in range(3)]
+        answer, value, after = call(t, kind, *numbers)
+        assert sound(after) and (answer < 10 or value == 0 and vars(after) == vars(t))
+    print(f"model: bench as document 01 states it; 3000 random tables, {stuck} with stuck tasks, all by sets and both routes alike")
+
+
+def main(words):
+    if words == ["verdict"]:
+        print("\n".join(verdict_lines(sys.stdin.buffer.read())))
+    elif words in (["odd-numbers"], ["sheets"]):
+        for line in {"odd-numbers": odd_numbers, "sheets": sheets}[words[0]]():
+            print(*line)
+    elif len(words) == 3 and words[0] == "vectors":
+        for line in vectors(int(words[1]), int(words[2])):
+            print(*line)
+    elif len(words) == 2 and words[0] == "samples":
+        for name in sorted(n for n in os.listdir(words[1]) if n.endswith(".sheet")):
+            with open(os.path.join(words[1], name), "rb") as file:
+                data = file.read()
+            print(f"{name}: {data.hex(' ') or 'no bytes'}: {', '.join(verdict_lines(data))}")
+    elif words == ["test"]:
+        test()
+    else:
+        sys.exit(__doc__)
+
+
+if __name__ == "__main__":
+    main(sys.argv[1:])

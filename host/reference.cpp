@@ -1,0 +1,201 @@
+#include "reference.hpp"
+
+#include <cstring>
+
+namespace reference {
+namespace {
+
+constexpr std::uint32_t largest_phase = 65535, unlimited = UINT32_MAX;
+
+struct Reader {
+    const std::uint8_t *at, *end;
+    std::uint32_t refusal = 0;
+
+    bool refuse(std::uint32_t answer) {
+        refusal = answer;
+        return false;
+    }
+
+    bool number(std::uint32_t largest, std::uint32_t &value) {
+        value = 0;
+        for (int group = 0; group < 3; ++group) {
+            if (at == end)
+                return refuse(30);
+            const std::uint8_t byte = *at++;
+            value |= std::uint32_t{byte} % 128 << 7 * group;
+            if (byte < 128) {
+                if (group > 0 && byte == 0)
+                    return refuse(31);
+                return value <= largest || refuse(32);
+            }
+        }
+        return refuse(32);
+    }
+
+    // `least` is one more than the number before it in its list, or 0.
+    bool rising(std::uint32_t largest, std::uint32_t &least, std::uint32_t &value) {
+        if (!number(largest, value))
+            return false;
+        if (value < least)
+            return refuse(33);
+        least = value + 1;
+        return true;
+    }
+
+    bool task(Table &table, std::uint32_t &least) {
+        std::uint32_t k, state, memberships, p, next = 0;
+        if (!rising(31, least, k) || !number(unlimited, state))
+            return false;
+        if (state > 1)
+            return refuse(34);
+        Task &task = table.task[k];
+        task.state = state == 1 ? State::blocked : State::running;
+        if (state == 1) {
+            if (!number(15, task.phaser))
+                return false;
+            if (!table.open[task.phaser])
+                return refuse(36);
+            if (!number(largest_phase, task.phase))
+                return false;
+        }
+        if (!number(16, memberships))
+            return false;
+        for (; memberships > 0; --memberships) {
+            if (!rising(15, next, p))
+                return false;
+            if (!table.open[p])
+                return refuse(36);
+            if (!number(largest_phase, table.phase[k][p]))
+                return false;
+            table.member[k][p] = true;
+        }
+        return true;
+    }
+
+    bool sheet(Table &table) {
+        std::uint32_t version, phasers, tasks, p, next_phaser = 0, next_task = 0;
+        if (!number(unlimited, version))
+            return false;
+        if (version != 1)
+            return refuse(34);
+        if (!number(16, phasers))
+            return false;
+        for (; phasers > 0; --phasers) {
+            if (!rising(15, next_phaser, p))
+                return false;
+            table.open[p] = true;
+        }
+        if (!number(32, tasks))
+            return false;
+        for (; tasks > 0; --tasks)
+            if (!task(table, next_task))
+                return false;
+        return at == end || refuse(35);
+    }
+};
+
+std::uint8_t *put(std::uint8_t *at, std::uint32_t value) {
+    for (; value >= 128; value /= 128)
+        *at++ = static_cast<std::uint8_t>(128 + value % 128);
+    *at++ = static_cast<std::uint8_t>(value);
+    return at;
+}
+
+std::uint32_t lowest(std::uint32_t set) { return static_cast<std::uint32_t>(__builtin_ctz(set)); }
+
+} // namespace
+
+std::uint32_t read(const std::uint8_t *sheet, std::size_t length, Table &table) {
+    Reader reader{sheet, sheet + length};
+    return reader.sheet(table) ? 0 : reader.refusal;
+}
+
+std::size_t write(const Table &table, std::uint8_t *sheet) {
+    std::uint32_t phasers = 0, tasks = 0;
+    for (bool open : table.open)
+        phasers += open;
+    for (const Task &task : table.task)
+        tasks += task.state != State::free;
+    std::uint8_t *at = put(put(sheet, 1), phasers);
+    for (std::uint32_t p = 0; p < 16; ++p)
+        if (table.open[p])
+            at = put(at, p);
+    at = put(at, tasks);
+    for (std::uint32_t k = 0; k < 32; ++k) {
+        const Task &task = table.task[k];
+        if (task.state == State::free)
+            continue;
+        at = put(put(at, k), task.state == State::blocked);
+        if (task.state == State::blocked)
+            at = put(put(at, task.phaser), task.phase);
+        std::uint32_t memberships = 0;
+        for (bool member : table.member[k])
+            memberships += member;
+        at = put(at, memberships);
+        for (std::uint32_t p = 0; p < 16; ++p)
+            if (table.member[k][p])
+                at = put(put(at, p), table.phase[k][p]);
+    }
+    return static_cast<std::size_t>(at - sheet);
+}
+
+Verdict judge(const Table &table) {
+    Verdict verdict;
+    std::uint32_t impeders[32]; // of each blocked task's event
+    for (std::uint32_t t = 0; t < 32; ++t) {
+        const Task &task = table.task[t];
+        if (task.state != State::blocked)
+            continue;
+        verdict.named |= 1u << t;
+        impeders[t] = 0;
+        for (std::uint32_t u = 0; u < 32; ++u)
+            if (table.member[u][task.phaser] && table.phase[u][task.phaser] < task.phase)
+                impeders[t] |= 1u << u;
+    }
+    // The greatest set in which each is blocked and impeded by one of the set holds every totally deadlocked set, and
+    // is one itself unless it is empty. So it is their union.
+    for (std::uint32_t before = 0; before != verdict.named;) {
+        before = verdict.named;
+        for (std::uint32_t left = before; left != 0; left &= left - 1)
+            if ((impeders[lowest(left)] & verdict.named) == 0)
+                verdict.named &= ~(1u << lowest(left));
+    }
+    if (verdict.named == 0)
+        return verdict;
+    // After 32 steps the walk is on the part that repeats: go round it once to find its lowest, once more to write it.
+    std::uint32_t present = lowest(verdict.named);
+    const auto step = [&] { return present = lowest(impeders[present] & verdict.named); };
+    for (int steps = 0; steps < 32; ++steps)
+        step();
+    const std::uint32_t start = present;
+    std::uint32_t least = start;
+    while (step() != start)
+        least = present < least ? present : least;
+    while (present != least)
+        step();
+    do
+        verdict.ring[verdict.ring_length++] = static_cast<std::uint8_t>(present);
+    while (step() != least);
+    return verdict;
+}
+
+std::uint32_t verdict(const std::uint8_t *sheet, std::size_t length, std::uint64_t route, std::uint8_t *strip,
+                      std::size_t strip_length) {
+    if (route > 1)
+        return 41;
+    if (strip_length < 38)
+        return 40;
+    Table table;
+    if (const std::uint32_t refusal = read(sheet, length, table))
+        return refusal;
+    const Verdict found = judge(table);
+    for (int byte = 0; byte < 4; ++byte)
+        strip[byte] = static_cast<std::uint8_t>(found.named >> 8 * byte);
+    strip[4] = static_cast<std::uint8_t>(__builtin_popcount(found.named));
+    strip[5] = found.ring_length;
+    std::memset(strip + 6, 255, 32);
+    std::memcpy(strip + 6, found.ring, found.ring_length);
+    return 0;
+}
+
+} // namespace reference
