@@ -87,15 +87,11 @@ pub open-phaser-row : (t : Table) (a : ℕ) → refusalOf (openPhaserTests t a)
 unfolding openPhaserTests endTaskTests running refuses refusalOf
 open-phaser-row t a = refusal-first (endTaskTests t a) (ltb (lowestUnopened t) 16 else noneFree ∷ []) refl
 
--- ---- a call that is refused, and one that is not
-module _ (t : Table) (tests : List Test) (effect : Called) where
-  pub ruled-refused : (n : ℕ) → n ≡ refusalOf tests → (n ≡ 0 → ⊥) → refused t n ≡ ruled t tests effect
-  unfolding ruled
-  ruled-refused n e h = simp (← e, ne-eqb n 0 h)
-
-  pub ruled-passed : refusalOf tests ≡ 0 → effect ≡ ruled t tests effect
-  unfolding ruled
-  ruled-passed e = simp e
+-- ---- a call that is refused
+pub ruled-refused : (t : Table) (tests : List Test) (effect : Called) (n : ℕ) → n ≡ refusalOf tests → (n ≡ 0 → ⊥)
+    → refused t n ≡ ruled t tests effect
+unfolding ruled
+ruled-refused t tests effect n e h = simp (← e, ne-eqb n 0 h)
 
 -- ---- a wait that passes, and one that blocks
 module _ (t : Table) (a p n : ℕ) where

@@ -1,8 +1,6 @@
 // Document 01, 'The table': whether a table is sound. No number in it is trusted.
-use crate::table::Event;
 use crate::table::LARGEST_PHASE;
 use crate::table::Phase;
-use crate::table::PhaserNo;
 use crate::table::State;
 use crate::table::Table;
 ghost use mathlib.Core.Path.{_≡_};
@@ -14,15 +12,7 @@ fn entry_sound(member: bool, state: State, opened: bool, phase: Phase) -> bool
     ensures { λ r. ⌜ r ≡ entrySound member state opened (phase .0) ⌝ }
 {
     if member {
-        if state.is_live() {
-            if opened {
-                phase.0 <= LARGEST_PHASE
-            } else {
-                false
-            }
-        } else {
-            false
-        }
+        state.is_live() && (opened && phase.0 <= LARGEST_PHASE)
     } else {
         phase.0 == 0
     }
@@ -37,15 +27,7 @@ fn state_sound(opened: [bool; 16], state: State) -> bool
         State::Running => true,
         State::Blocked(event) => {
             let p = event.phaser.0;
-            if p < 16 {
-                if opened[p as usize] {
-                    event.phase.0 <= LARGEST_PHASE
-                } else {
-                    false
-                }
-            } else {
-                false
-            }
+            p < 16 && (opened[p as usize] && event.phase.0 <= LARGEST_PHASE)
         }
     }
 }
@@ -87,10 +69,6 @@ impl Table {
     pub fn is_sound(self) -> bool
         ensures { λ r. ⌜ r ≡ soundOf self ⌝ }
     {
-        if self.entries_sound() {
-            self.states_sound()
-        } else {
-            false
-        }
+        self.entries_sound() && self.states_sound()
     }
 }

@@ -112,11 +112,7 @@ impl Table {
         ensures { λ r. ⌜ r ≡ openAt self (phaser .0) ⌝ }
     {
         let p = phaser.0;
-        if p < 16 {
-            self.opened[p as usize]
-        } else {
-            false
-        }
+        p < 16 && self.opened[p as usize]
     }
 
     pub fn member_at(self, task: TaskNo, phaser: PhaserNo) -> bool
@@ -124,15 +120,7 @@ impl Table {
     {
         let k = task.0;
         let p = phaser.0;
-        if k < 32 {
-            if p < 16 {
-                self.members[(k * 16 + p) as usize]
-            } else {
-                false
-            }
-        } else {
-            false
-        }
+        k < 32 && (p < 16 && self.members[(k * 16 + p) as usize])
     }
 
     pub fn phase_at(self, task: TaskNo, phaser: PhaserNo) -> Phase

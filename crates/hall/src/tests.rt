@@ -20,7 +20,7 @@ ghost use mathlib.Core.Path.{_≡_};
 ghost use Prim.Native.Nat.{_<_};
 ghost use Rattle.hall.specs.Tests.{refusalOf, lowestFree, lowestUnopened, waitsAt, unused, endTaskTests, closePhaserTests, admitTests, memberTests, arriveTests, waitAtTests, releaseTests};
 
-pub(crate) fn waits_at(state: State, phaser: PhaserNo) -> bool
+fn waits_at(state: State, phaser: PhaserNo) -> bool
     ensures { λ r. ⌜ r ≡ waitsAt state (phaser .0) ⌝ }
 {
     match state {

@@ -10,7 +10,7 @@ ghost use Rattle.hall.specs.Waiting.{behind, impedesOf, reachedOf};
 pub fn behind(member: bool, phase: Phase, awaited: Phase) -> bool
     ensures { λ r. ⌜ r ≡ behind member (phase .0) (awaited .0) ⌝ }
 {
-    if member { phase.0 < awaited.0 } else { false }
+    member && phase.0 < awaited.0
 }
 
 impl Table {

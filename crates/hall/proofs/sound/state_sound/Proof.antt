@@ -1,3 +1,4 @@
+use borrow.Author.Tests.{le-ltb}
 use Rattle.hall.proofs.Places.{open-in, open-out}
 use borrow.Author.Needs.{needs}
 use Rattle.hall.proofs.sound.state_sound.Statement.{statement}
@@ -28,7 +29,7 @@ returns-4 : tie.Need-returns-4
 returns-4 c = λ t e. simp (c .before .before .before .state .given .1, open-in t _ (c .before .if1 .taken), e, c .if2 .left)
 
 returns-5 : tie.Need-returns-5
-returns-5 c = λ t e. simp (c .before .before .state .given .1, open-out t _ (c .if1 .left))
+returns-5 c = λ t e. simp (c .before .before .state .given .1, open-out t _ (c .if1 .left), le-ltb _ _ (c .if1 .left))
 
 pub state-sound-spec : {M : Type 1} → statement M
 state-sound-spec =

@@ -1,12 +1,13 @@
-use mathlib.Core.Path.{sym, _∙_, ap}
-use mathlib.Core.Bool.{true}
-use Prim.Native.Nat.{ℕ}
-use Rattle.hall.specs.Calls.{called, admitOf}
-use Rattle.hall.specs.Effects.{withEntry}
-use Rattle.hall.proofs.Refusals.{ruled-refused, ruled-passed, admit-below}
+use mathlib.Core.Path.{_≡_, sym, _∙_}
+use Rattle.hall.specs.Calls.{ruled, admitOf}
+use Rattle.hall.specs.Tests.{refusalOf, admitTests}
+use Rattle.hall.proofs.Refusals.{ruled-refused, admit-below}
 use borrow.Author.Needs.{needs}
 use Rattle.hall.proofs.table.Table.admit.Statement.{statement}
 use Rattle.hall.proofs.table.Table.admit.Tie as tie
+
+passes : (c : tie.Else1) → refusalOf (admitTests (c .before .before .args .self) (c .before .before .args .caller .0) (c .before .before .args .phaser .0) (c .before .before .args .target .0)) ≡ 0
+passes c = sym (c .before .admit-refusal .ensures) ∙ c .if1 .left
 
 admit-refusal-requires : tie.Need-admit-refusal-requires
 admit-refusal-requires c κs = search needs
@@ -22,7 +23,7 @@ phase-at-requires : tie.Need-phase-at-requires
 phase-at-requires c κs = search needs
 
 with-entry-requires : tie.Need-with-entry-requires
-with-entry-requires c κs = admit-below _ _ _ _ (sym (c .before .before .admit-refusal .ensures) ∙ c .before .if1 .left)
+with-entry-requires c κs = admit-below _ _ _ _ (passes (c .before))
 
 cast-called : tie.Need-cast-called
 cast-called c = search needs
@@ -31,13 +32,8 @@ called-requires : tie.Need-called-requires
 called-requires c κs = search needs
 
 returns-2 : tie.Need-returns-2
-unfolding admitOf
-returns-2 c =
-    let s = c .before .before .before .before .before .before .args in
-    c .called .ensures
-    ∙ ap (called 0 _) (c .before .before .with-entry .ensures)
-    ∙ ap (λ (n : ℕ). called 0 n (withEntry (s .self) (s .target .0) (s .phaser .0) true n)) (c .before .before .before .phase-at .ensures)
-    ∙ ruled-passed _ _ _ (sym (c .before .before .before .before .before .admit-refusal .ensures) ∙ c .before .before .before .before .if1 .left)
+unfolding admitOf ruled
+returns-2 c = simp (passes (c .before .before .before .before), c .called .ensures, c .before .before .with-entry .ensures, c .before .before .before .phase-at .ensures)
 
 pub admit-spec : {M : Type 1} → statement M
 admit-spec =

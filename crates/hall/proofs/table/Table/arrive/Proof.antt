@@ -1,13 +1,14 @@
-use mathlib.Core.Path.{sym, _∙_, ap}
-use mathlib.Core.Bool.{true}
-use Prim.Native.Nat.{ℕ, _+_}
+use mathlib.Core.Path.{_≡_, sym, _∙_}
 use native.Mathlib.Omega.{arith}
-use Rattle.hall.specs.Calls.{called, arriveOf}
-use Rattle.hall.specs.Effects.{withEntry}
-use Rattle.hall.proofs.Refusals.{ruled-refused, ruled-passed, arrive-below}
+use Rattle.hall.specs.Calls.{ruled, arriveOf}
+use Rattle.hall.specs.Tests.{refusalOf, arriveTests}
+use Rattle.hall.proofs.Refusals.{ruled-refused, arrive-below}
 use borrow.Author.Needs.{needs}
 use Rattle.hall.proofs.table.Table.arrive.Statement.{statement}
 use Rattle.hall.proofs.table.Table.arrive.Tie as tie
+
+passes : (c : tie.Else1) → refusalOf (arriveTests (c .before .before .args .self) (c .before .before .args .task .0) (c .before .before .args .phaser .0)) ≡ 0
+passes c = sym (c .before .arrive-refusal .ensures) ∙ c .if1 .left
 
 arrive-refusal-requires : tie.Need-arrive-refusal-requires
 arrive-refusal-requires c κs = search needs
@@ -23,10 +24,10 @@ phase-at-requires : tie.Need-phase-at-requires
 phase-at-requires c κs = search needs
 
 add-higher : tie.Need-add-higher
-add-higher c = omega (arith, arrive-below _ _ _ (sym (c .before .before .before .arrive-refusal .ensures) ∙ c .before .before .if1 .left), c .before .phase-at .ensures)
+add-higher c = omega (arith, arrive-below _ _ _ (passes (c .before .before)), c .before .phase-at .ensures)
 
 with-entry-requires : tie.Need-with-entry-requires
-with-entry-requires c κs = arrive-below _ _ _ (sym (c .before .before .before .arrive-refusal .ensures) ∙ c .before .before .if1 .left) .0
+with-entry-requires c κs = arrive-below _ _ _ (passes (c .before .before)) .0
 
 cast-called : tie.Need-cast-called
 cast-called c = search needs
@@ -35,13 +36,8 @@ called-requires : tie.Need-called-requires
 called-requires c κs = search needs
 
 returns-2 : tie.Need-returns-2
-unfolding arriveOf
-returns-2 c =
-    let s = c .before .before .before .before .before .before .args in
-    c .called .ensures
-    ∙ ap (called 0 _) (c .before .with-entry .ensures)
-    ∙ ap (λ (n : ℕ). called 0 (n + 1) (withEntry (s .self) (s .task .0) (s .phaser .0) true (n + 1))) (c .before .before .before .phase-at .ensures)
-    ∙ ruled-passed _ _ _ (sym (c .before .before .before .before .before .arrive-refusal .ensures) ∙ c .before .before .before .before .if1 .left)
+unfolding arriveOf ruled
+returns-2 c = simp (passes (c .before .before .before .before), c .called .ensures, c .before .with-entry .ensures, c .before .before .before .phase-at .ensures)
 
 pub arrive-spec : {M : Type 1} → statement M
 arrive-spec =

@@ -1,4 +1,5 @@
-use mathlib.Core.Path.{sym}
+use mathlib.Core.Path.{sym, _∙_}
+use borrow.Author.Tests.{le-ltb}
 use Rattle.hall.proofs.Places.{open-in, open-out}
 use borrow.Author.Needs.{needs}
 use Rattle.hall.proofs.table.Table.open_at.Statement.{statement}
@@ -11,7 +12,7 @@ returns : tie.Need-returns
 returns c = sym (open-in _ _ (c .before .if1 .taken))
 
 returns-2 : tie.Need-returns-2
-returns-2 c = sym (open-out _ _ (c .if1 .left))
+returns-2 c = le-ltb _ _ (c .if1 .left) ∙ sym (open-out _ _ (c .if1 .left))
 
 pub open-at-spec : {M : Type 1} → statement M
 open-at-spec = tie.close (tie.spec element-copy-out-result returns returns-2)

@@ -1,10 +1,15 @@
-use mathlib.Core.Path.{sym, _∙_}
+use mathlib.Core.Path.{_≡_, sym, _∙_}
+use mathlib.Core.Bool.{true}
 use borrow.Author.Tests.{not-true, not-false, lt-ltb, le-ltb}
 use Rattle.hall.specs.Calls.{ruled, openTaskOf}
+use Rattle.hall.specs.Sound.{soundOf}
 use Rattle.hall.specs.Tests.{refusalOf, openTaskTests}
 use borrow.Author.Needs.{needs}
 use Rattle.hall.proofs.table.Table.open_task.Statement.{statement}
 use Rattle.hall.proofs.table.Table.open_task.Tie as tie
+
+sound-ok : (c : tie.Else1) → soundOf (c .before .before .args .self) ≡ true
+sound-ok c = sym (c .before .is-sound .ensures) ∙ not-false _ (c .if1 .left)
 
 is-sound-requires : tie.Need-is-sound-requires
 is-sound-requires c κs = search needs
@@ -24,7 +29,13 @@ refused-requires-2 c κs = search needs
 
 returns-2 : tie.Need-returns-2
 unfolding openTaskOf ruled refusalOf openTaskTests
-returns-2 c = simp (sym (c .before .before .before .before .before .is-sound .ensures) ∙ not-false _ (c .before .before .before .before .if1 .left), ← (c .before .before .before .lowest-free .ensures), le-ltb _ _ (c .before .if2 .taken), c .refused2 .ensures)
+returns-2 c =
+    simp (
+      sound-ok (c .before .before .before .before),
+      ← (c .before .before .before .lowest-free .ensures),
+      le-ltb _ _ (c .before .if2 .taken),
+      c .refused2 .ensures,
+    )
 
 with-state-requires : tie.Need-with-state-requires
 with-state-requires c κs = search needs
@@ -34,7 +45,14 @@ called-requires c κs = search needs
 
 returns-3 : tie.Need-returns-3
 unfolding openTaskOf ruled refusalOf openTaskTests
-returns-3 c = simp (sym (c .before .before .before .before .before .before .is-sound .ensures) ∙ not-false _ (c .before .before .before .before .before .if1 .left), ← (c .before .before .before .before .lowest-free .ensures), lt-ltb _ _ (c .before .before .if2 .left), c .called .ensures, c .before .with-state .ensures)
+returns-3 c =
+    simp (
+      sound-ok (c .before .before .before .before .before),
+      ← (c .before .before .before .before .lowest-free .ensures),
+      lt-ltb _ _ (c .before .before .if2 .left),
+      c .called .ensures,
+      c .before .with-state .ensures,
+    )
 
 pub open-task-spec : {M : Type 1} → statement M
 open-task-spec =

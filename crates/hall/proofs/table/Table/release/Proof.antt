@@ -1,9 +1,13 @@
-use mathlib.Core.Path.{sym, _∙_, ap}
-use Rattle.hall.specs.Calls.{called, releaseOf}
-use Rattle.hall.proofs.Refusals.{ruled-refused, ruled-passed, release-below}
+use mathlib.Core.Path.{_≡_, sym, _∙_}
+use Rattle.hall.specs.Calls.{ruled, releaseOf}
+use Rattle.hall.specs.Tests.{refusalOf, releaseTests}
+use Rattle.hall.proofs.Refusals.{ruled-refused, release-below}
 use borrow.Author.Needs.{needs}
 use Rattle.hall.proofs.table.Table.release.Statement.{statement}
 use Rattle.hall.proofs.table.Table.release.Tie as tie
+
+passes : (c : tie.Else1) → refusalOf (releaseTests (c .before .before .args .self) (c .before .before .args .task .0)) ≡ 0
+passes c = sym (c .before .release-refusal .ensures) ∙ c .if1 .left
 
 release-refusal-requires : tie.Need-release-refusal-requires
 release-refusal-requires c κs = search needs
@@ -16,15 +20,14 @@ unfolding releaseOf
 returns c = c .refused .ensures ∙ ruled-refused _ _ _ _ (c .before .before .release-refusal .ensures) (c .before .if1 .taken)
 
 with-state-requires : tie.Need-with-state-requires
-with-state-requires c κs = release-below _ _ (sym (c .before .release-refusal .ensures) ∙ c .if1 .left)
+with-state-requires c κs = release-below _ _ (passes c)
 
 called-requires : tie.Need-called-requires
 called-requires c κs = search needs
 
 returns-2 : tie.Need-returns-2
-unfolding releaseOf
-returns-2 c =
-    c .called .ensures ∙ ap (called 0 0) (c .before .with-state .ensures) ∙ ruled-passed _ _ _ (sym (c .before .before .before .release-refusal .ensures) ∙ c .before .before .if1 .left)
+unfolding releaseOf ruled
+returns-2 c = simp (passes (c .before .before), c .called .ensures, c .before .with-state .ensures)
 
 pub release-spec : {M : Type 1} → statement M
 release-spec =

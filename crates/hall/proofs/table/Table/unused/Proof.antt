@@ -1,23 +1,36 @@
 -- No task below k is a member of the phaser or waits at it.
 use mathlib.Core.Path.{_≡_, sym, _∙_, ap, ap₂}
 use mathlib.Core.Bool.{Bool, true, _&&_, not}
-use Prim.Native.Nat.{_≤_, _-_}
+use Prim.Native.Nat.{ℕ, _≤_, _-_}
 use native.Mathlib.Omega.{arith}
 use Rattle.hall.specs.Every.{every}
 use Rattle.hall.specs.Table.{stateAt, memberAt}
 use Rattle.hall.specs.Tests.{waitsAt, unused}
 use Rattle.hall.specs.declared.table.State.{State}
+use Rattle.hall.specs.declared.table.Table.{Table}
 use Rattle.hall.proofs.Every.{every-none, every-more, every-not}
 use Rattle.hall.proofs.Places.{member-in, state-in}
 use borrow.Author.Needs.{needs}
 use Rattle.hall.proofs.table.Table.unused.Statement.{statement}
 use Rattle.hall.proofs.table.Table.unused.Tie as tie
 
+abbrev unusedBy : Table → ℕ → ℕ → Bool
+unusedBy t p k = not (memberAt t k p) && not (waitsAt (stateAt t k) p)
+
 abbrev Inv-loop : tie.InvT-loop
-Inv-loop phaser self column k₀ k = (k ≤ 32) × (every (λ j. not (memberAt self j column) && not (waitsAt (stateAt self j) column)) k ≡ true)
+Inv-loop phaser self column k₀ k = (k ≤ 32) × (every (unusedBy self column) k ≡ true)
 
 abbrev μ-loop : tie.MeasureT-loop
 μ-loop phaser self column k₀ k = 32 - k
+
+-- of a task that is no member the answer of `waits_at` decides
+by-told : (c : tie.After-waits-at Inv-loop μ-loop)
+    → unusedBy (c .before .before .before .before .before .before .args .t1) (c .before .before .before .before .before .before .args .phaser .0) (c .before .before .before .before .before .loop .k) ≡ not (c .waits-at .result)
+by-told c =
+    let s = c .before .before .before .before .before .before .args in
+    let k = c .before .before .before .before .before .loop .k in
+    ap₂ (λ (m w : Bool). not m && not w) (member-in (s .t1) k (s .phaser .0) (search needs) (c .before .before .before .before .before .before .pre) ∙ c .before .if1 .left)
+    (ap (λ (x : State). waitsAt x (s .phaser .0)) (state-in (s .t1) k (search needs)) ∙ sym (c .waits-at .ensures))
 
 loop-holds : tie.Need-loop-holds Inv-loop μ-loop
 loop-holds c = (search needs, every-none _)
@@ -41,24 +54,15 @@ returns : tie.Need-returns Inv-loop μ-loop
 unfolding unused
 returns c =
     let s = c .before .before .before .before .before .args in
-    sym
-    (every-not _ 32 (c .before .before .before .before .loop .k) (search needs)
-    (simp (member-in (s .t1) (c .before .before .before .before .loop .k) (s .phaser .0) (search needs) (c .before .before .before .before .before .pre) ∙ c .if1 .taken)))
+    let k = c .before .before .before .before .loop .k in
+    sym (every-not _ 32 k (search needs) (simp (member-in (s .t1) k (s .phaser .0) (search needs) (c .before .before .before .before .before .pre) ∙ c .if1 .taken)))
 
 waits-at-requires : tie.Need-waits-at-requires Inv-loop μ-loop
 waits-at-requires c κs = tt
 
 returns-2 : tie.Need-returns-2 Inv-loop μ-loop
 unfolding unused
-returns-2 c =
-    let s = c .before .before .before .before .before .before .before .args in
-    sym
-    (every-not _ 32 (c .before .before .before .before .before .before .loop .k) (search needs)
-    (ap₂ (λ (m w : Bool). not m && not w)
-    (member-in (s .t1) (c .before .before .before .before .before .before .loop .k) (s .phaser .0) (search needs) (c .before .before .before .before .before .before .before .pre) ∙ c .before .before .if1 .left)
-    (ap (λ (x : State). waitsAt x (s .phaser .0)) (state-in (s .t1) (c .before .before .before .before .before .before .loop .k) (search needs))
-    ∙ sym (c .before .waits-at .ensures)
-    ∙ c .if2 .taken)))
+returns-2 c = sym (every-not _ 32 _ (search needs) (by-told (c .before) ∙ ap not (c .if2 .taken)))
 
 add-k : tie.Need-add-k Inv-loop μ-loop
 add-k c = search needs
@@ -67,16 +71,7 @@ loop-less : tie.Need-loop-less Inv-loop μ-loop
 loop-less c = search needs
 
 loop-again : tie.Need-loop-again Inv-loop μ-loop
-loop-again c =
-    let s = c .before .before .before .before .before .before .before .args in (
-      search needs,
-      every-more _ _ (c .before .before .before .before .before .before .loop .inv .1)
-          (ap₂ (λ (m w : Bool). not m && not w)
-          (member-in (s .t1) (c .before .before .before .before .before .before .loop .k) (s .phaser .0) (search needs) (c .before .before .before .before .before .before .before .pre) ∙ c .before .before .if1 .left)
-          (ap (λ (x : State). waitsAt x (s .phaser .0)) (state-in (s .t1) (c .before .before .before .before .before .before .loop .k) (search needs))
-          ∙ sym (c .before .waits-at .ensures)
-          ∙ c .if2 .left)),
-    )
+loop-again c = (search needs, every-more _ _ (c .before .before .before .before .before .before .loop .inv .1) (by-told (c .before) ∙ ap not (c .if2 .left)))
 
 returns-3 : tie.Need-returns-3 Inv-loop μ-loop
 unfolding unused

@@ -1,9 +1,13 @@
-use mathlib.Core.Path.{sym, _∙_, ap}
-use Rattle.hall.specs.Calls.{waits, waitOf}
-use Rattle.hall.proofs.Refusals.{ruled-refused, ruled-passed, member-below}
+use mathlib.Core.Path.{_≡_, sym, _∙_}
+use Rattle.hall.specs.Calls.{ruled, waitOf}
+use Rattle.hall.specs.Tests.{refusalOf, memberTests}
+use Rattle.hall.proofs.Refusals.{ruled-refused, member-below}
 use borrow.Author.Needs.{needs}
 use Rattle.hall.proofs.table.Table.wait.Statement.{statement}
 use Rattle.hall.proofs.table.Table.wait.Tie as tie
+
+passes : (c : tie.Else1) → refusalOf (memberTests (c .before .before .args .self) (c .before .before .args .task .0) (c .before .before .args .phaser .0)) ≡ 0
+passes c = sym (c .before .member-refusal .ensures) ∙ c .if1 .left
 
 member-refusal-requires : tie.Need-member-refusal-requires
 member-refusal-requires c κs = search needs
@@ -19,15 +23,11 @@ phase-at-requires : tie.Need-phase-at-requires
 phase-at-requires c κs = search needs
 
 waits-requires : tie.Need-waits-requires
-waits-requires c κs = member-below _ _ _ (sym (c .before .before .member-refusal .ensures) ∙ c .before .if1 .left) .0
+waits-requires c κs = member-below _ _ _ (passes (c .before)) .0
 
 returns-2 : tie.Need-returns-2
-unfolding waitOf
-returns-2 c =
-    let s = c .before .before .before .before .args in
-    c .waits .ensures
-    ∙ ap (waits (s .self) (s .task .0) (s .phaser .0)) (c .before .phase-at .ensures)
-    ∙ ruled-passed _ _ _ (sym (c .before .before .before .member-refusal .ensures) ∙ c .before .before .if1 .left)
+unfolding waitOf ruled
+returns-2 c = simp (passes (c .before .before), c .waits .ensures, c .before .phase-at .ensures)
 
 pub wait-spec : {M : Type 1} → statement M
 wait-spec =
