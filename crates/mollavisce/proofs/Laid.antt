@@ -1,9 +1,9 @@
 -- Two copies, one after the other, leave the two lists and the rest.
-use mathlib.Core.Path.{_≡_, refl, _∙_}
+use mathlib.Core.Path.{_≡_, _∙_}
 use mathlib.Core.List.{List, _++_, append-assoc, append-nil}
 use Prim.Native.Nat.{ℕ, _≤_}
 use native.Mathlib.Omega.{arith}
-use lib.ListN.{length, take, drop, length-take, length-drop, drop-of-length-le}
+use lib.ListN.{length, take, drop, length-take, drop-of-length-le}
 use lib.Seq.{take-length, take-at, drop-at, drop-drop}
 
 module _ (head ring strip first second : List ℕ) (six : length head ≡ 6) (places : length ring ≡ 32)

@@ -1,3 +1,7 @@
 pub mod Laid
+pub mod Fits
+pub mod Entered
+pub mod Answers
+pub mod One
 pub mod ReadBack
-pub mod Small
+pub mod Examples

@@ -1,15 +1,18 @@
 -- What stands in the strip after answer 0, read back, is the verdict.
-use mathlib.Core.Path.{_≡_, refl, sym, ap, _∙_}
-use mathlib.Core.List.{List, _++_, append-assoc}
+use mathlib.Core.Path.{_≡_, refl, sym, ap, _∙_, subst}
+use mathlib.Core.List.{List, _++_}
 use Prim.Native.Nat.{ℕ, _+_, _*_, _/_, _%_, _^_, _<_}
 use native.Mathlib.Nat.{div-div-eq-div-mul}
 use native.Mathlib.Omega.{arith}
-use lib.ListN.{length, take, drop}
+use lib.ListN.{length, drop}
 use lib.Seq.{take-at}
 use borrow.Author.Tests.{eq-eqb}
 use Rattle.hall.specs.Answers.{done}
 use Rattle.judge.specs.declared.verdict.Verdict.{Verdict}
+use Rattle.mollavisce.specs.Entry.{SheetJudged, Entered}
 use Rattle.mollavisce.specs.Strip.{stripOf, stripAfter, verdictIn}
+use Rattle.mollavisce.proofs.Entered.{done-reached}
+use Rattle.mollavisce.proofs.Fits.{sheet-fits}
 
 byte : (q : ℕ) → q ≡ q / 256 * 256 + q % 256
 byte q = omega arith
@@ -38,3 +41,11 @@ module _ (v : Verdict) (fits : v .named < 2 ^ 32) (places : length (v .ring) ≡
   pub read-back : (strip : List ℕ) → verdictIn (stripAfter v strip) ≡ v
   unfolding stripAfter
   read-back strip = rw (eq-eqb (v .answer) done accepted) (strip-read (drop 38 strip))
+
+-- so what a host reads after answer 0 is the verdict of the sheet
+pub entered-read : (sheet : List ℕ) (route : ℕ) (before after : List ℕ) → Entered sheet route before after done → SheetJudged sheet route (verdictIn after)
+entered-read sheet route before after x =
+    let r = done-reached sheet route before after done x refl in
+    let v = r .verdict in
+    let f = sheet-fits sheet route v (r .judged) (sym (r .answers)) in
+    subst (SheetJudged sheet route) (sym (ap verdictIn (r .strip) ∙ read-back v (f .mask) (f .places) (sym (r .answers)) before)) (r .judged)

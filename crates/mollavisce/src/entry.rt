@@ -16,9 +16,9 @@ pub fn verdict_of(bytes: &[u8], route: u64) -> Verdict
         return Verdict::nobody(NO_ROUTE);
     }
     let held = read(bytes);
-    let answer = held.answer;
-    if answer != 0 {
-        return Verdict::nobody(answer);
+    let refusal = held.answer;
+    if refusal != 0 {
+        return Verdict::nobody(refusal);
     }
     let table = held.table;
     judge(table, route)
@@ -29,7 +29,7 @@ pub fn verdict_of(bytes: &[u8], route: u64) -> Verdict
 pub extern "C" fn sheet_verdict(sheet: &[u8], route: u64, strip: &mut [u8]) -> u32
     ensures { λ r. ⌜ Entered (now (sheet .entry)) route (now (strip .entry)) (now (strip .exit)) r ⌝ }
 {
-    if route > 1 {
+    if 1 < route {
         return NO_ROUTE;
     }
     if strip.len() < 38 {

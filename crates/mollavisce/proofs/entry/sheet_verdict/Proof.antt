@@ -1,11 +1,11 @@
 -- 41, then 40, both with the strip as it was; then the verdict's answer, and its bytes where that is 0.
-use mathlib.Core.Path.{_≡_, refl, ap, sym, _∙_}
-use Prim.Native.Nat.{_≤_, _<_, _^_}
+use mathlib.Core.Path.{refl, sym}
 use native.Mathlib.Omega.{arith}
 use borrow.Author.Needs.{needs}
 use borrow.Author.Tests.{eq-eqb, ne-eqb}
+use Rattle.hall.specs.Answers.{done}
 use Rattle.mollavisce.specs.Strip.{stripAfter}
-use Rattle.mollavisce.proofs.Small.{sheet-small}
+use Rattle.mollavisce.proofs.Fits.{sheet-fits}
 use Rattle.mollavisce.proofs.entry.sheet_verdict.Statement.{statement}
 use Rattle.mollavisce.proofs.entry.sheet_verdict.Tie as tie
 
@@ -31,16 +31,14 @@ unfolding stripAfter
 returns-3 c = record {
   no-route = λ l. absurd (omega (arith, l, c .before .before .before .if1 .left));
   short = λ _ l. absurd (omega (arith, l, c .before .before .if2 .left));
-  judged = λ _ _. (c .before .verdict-of .result, c .before .verdict-of .ensures, refl, rw (ne-eqb _ _ (c .if3 .taken)) refl);
+  judged = λ _ _. (c .before .verdict-of .result, c .before .verdict-of .ensures, refl, rw (ne-eqb _ done (c .if3 .taken)) refl);
 }
 
 lay-requires : tie.Need-lay-requires
 lay-requires c κs =
     let v = c .before .before .verdict-of in
-    let fits : v .result .named < 2 ^ 32 = search needs in
-    let route : c .before .before .before .before .before .before .before .args .route ≤ 1 = search needs in
-    let small = sheet-small _ _ (v .result) route fits (v .ensures) (c .before .if3 .left) in
-    (search needs, small .0, small .1)
+    let fits = sheet-fits _ _ (v .result) (v .ensures) (c .before .if3 .left) in
+    (search needs, fits .count, fits .ring-length)
 
 same-length : tie.Need-same-length
 same-length c = search needs
@@ -53,7 +51,7 @@ returns-4 c =
     record {
       no-route = λ l. absurd (omega (arith, l, c .before .before .before .before .before .before .before .if1 .left));
       short = λ _ l. absurd (omega (arith, l, c .before .before .before .before .before .before .if2 .left));
-      judged = λ _ _. (v .result, v .ensures, sym answered, rw (eq-eqb _ _ answered) (c .before .before .lay .ensures));
+      judged = λ _ _. (v .result, v .ensures, sym answered, rw (eq-eqb _ done answered) (c .before .before .lay .ensures));
     }
 
 pub sheet-verdict-spec : {M : Type 1} → statement M

@@ -1,8 +1,7 @@
 -- 41 first, then the reader's refusal, then the judge's verdict of the table that was read.
-use mathlib.Core.Path.{_≡_, ap, sym, _∙_, subst}
+use mathlib.Core.Path.{ap, sym, _∙_, subst}
 use native.Mathlib.Omega.{arith}
 use borrow.Author.Needs.{needs}
-use Rattle.hall.specs.declared.table.Table.{Table}
 use Rattle.judge.specs.Verdict.{nobody, Judged}
 use Rattle.sheet.specs.declared.reader.Sheet.{Sheet}
 use Rattle.mollavisce.proofs.entry.verdict_of.Statement.{statement}

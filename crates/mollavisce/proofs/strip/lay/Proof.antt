@@ -9,10 +9,6 @@ use Rattle.mollavisce.specs.Strip.{stripOf}
 use Rattle.mollavisce.proofs.Laid.{laid}
 use Rattle.mollavisce.proofs.strip.lay.Statement.{statement}
 use Rattle.mollavisce.proofs.strip.lay.Tie as tie
-use Rattle.mollavisce.proofs.strip.lay.Reads as reads
-use Rattle.mollavisce.proofs.strip.lay.Lts as lts
-use Rattle.bytes.proofs.copy.Reads as copy-reads
-use Rattle.mollavisce.proofs.strip.head.Reads as head-reads
 
 head-requires : tie.Need-head-requires
 head-requires c κs = search needs
