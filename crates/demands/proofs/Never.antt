@@ -6,12 +6,9 @@ use Rattle.deadlock.proofs.Theory.{frame-stuck}
 use Rattle.hall.specs.Table.{Shaped}
 use Rattle.hall.specs.Waiting.{BlockedOn, Impedes}
 use Rattle.hall.specs.declared.table.Table.{Table}
-use Rattle.hall.proofs.Frame.{Frame, call-frame, impeded-refused}
+use Rattle.hall.proofs.Frame.{call-frame, impeded-refused}
 use Rattle.hall.proofs.Kept.{call-shaped}
 use Rattle.demands.specs.Series.{StuckIn, Call, made, Accepted, Releases, Contains, Never}
-
-pub frame-keeps : (t t′ : Table) → Frame t t′ → (k : ℕ) → StuckIn t k → StuckIn t′ k
-frame-keeps t t′ f = frame-stuck (BlockedOn t) (Impedes t) (BlockedOn t′) (Impedes t′) (record { stays = f .stays; keeps = f .holds })
 
 pub stuck-refused : (t : Table) (k : ℕ) → StuckIn t k → (c : Call) → Releases k c → Accepted t c → ⊥
 stuck-refused t k x c r a =
@@ -23,7 +20,7 @@ pub made-shaped : (t : Table) → Shaped t → (c : Call) → Shaped (made t c .
 made-shaped t z c = call-shaped t z (c .kind) (c .task) (c .phaser) (c .other)
 
 pub made-stuck : (t : Table) → Shaped t → (c : Call) (k : ℕ) → StuckIn t k → StuckIn (made t c .table) k
-made-stuck t z c = frame-keeps t (made t c .table) (call-frame t z (c .kind) (c .task) (c .phaser) (c .other))
+made-stuck t z c = frame-stuck _ _ _ _ (call-frame t z (c .kind) (c .task) (c .phaser) (c .other))
 
 -- ---- through a series
 pub stuck-never : (t : Table) → Shaped t → (k : ℕ) → StuckIn t k → Never t k

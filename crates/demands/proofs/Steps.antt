@@ -24,7 +24,7 @@ use Rattle.hall.proofs.Rows.{row-accepted, end-task-row, release-row}
 use Rattle.hall.proofs.Soundness.{sound-iff}
 use Rattle.hall.proofs.Written.{put-here, put-other, state-below}
 use Rattle.demands.specs.Series.{StuckIn, Call, made, Accepted, release}
-use Rattle.demands.proofs.Never.{frame-keeps}
+use Rattle.deadlock.proofs.Theory.{frame-stuck}
 use Rattle.demands.proofs.Sums.{sum, sum-less}
 
 -- the calls that a task has ahead before it is gone: a release and an end, or an end
@@ -44,7 +44,7 @@ pub record Lightens (u : ℕ) (t t′ : Table) : Type 0 where
 
 module _ {u : ℕ} {t t′ : Table} (l : Lightens u t t′) where
   pub lightens-stuck : (k : ℕ) → StuckIn t′ k → StuckIn t k
-  lightens-stuck = frame-keeps t′ t (fewer-frame t t′ (l .fewer))
+  lightens-stuck = frame-stuck _ _ _ _ (fewer-frame t t′ (l .fewer))
 
   pub lightens-left : left t′ < left t
   lightens-left =

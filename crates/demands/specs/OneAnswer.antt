@@ -12,7 +12,8 @@ use Rattle.hall.specs.declared.table.Phase.{Phase}
 use Rattle.hall.specs.declared.table.Table.{Table}
 use Rattle.judge.specs.Routes.{TaskRoute, EventRoute}
 use Rattle.judge.specs.Verdict.{Judged}
-use Rattle.sheet.specs.Got.{Got, outcome}
+use Rattle.sheet.specs.Got.{Got}
+use Rattle.sheet.specs.Number.{outcome}
 use Rattle.sheet.specs.declared.number.Number.{Number}
 use Rattle.mollavisce.specs.Entry.{SheetJudged, Entered}
 

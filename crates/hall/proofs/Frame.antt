@@ -7,6 +7,7 @@ use Prim.Native.Nat.{ℕ, _+_, _<_}
 use native.Mathlib.Decide.{ℕ-discrete}
 use lib.Dec.{leb, eqb}
 use borrow.Author.Tests.{eqb-true, ne-eqb, leb-true, leb-false}
+use Rattle.deadlock.proofs.Theory.{Frame}
 use Rattle.hall.specs.Answers.{notReached}
 use Rattle.hall.specs.Calls.{refused, ruled, releaseOf, callOf}
 use Rattle.hall.specs.Rules.{put}
@@ -121,15 +122,14 @@ module _ (t : Table) (k u : ℕ) (e : Event) (b : BlockedOn t k e) (i : Impedes 
       unreached true q = absurd (impeded-unreached t u e i q)
       unreached false q = q
 
--- ---- the frame, over the two relations alone
-pub record Frame (t u : Table) : Type 0 where
-  pub stays : (k : ℕ) (e : Event) → BlockedOn t k e → (v : ℕ) (f : Event) → BlockedOn t v f → Impedes t v e → BlockedOn u k e
-  pub holds : (v : ℕ) (f : Event) → BlockedOn t v f → (e : Event) → Impedes t v e → Impedes u v e
+-- ---- the frame of `deadlock`, over the two relations alone
+abbrev pub FrameOf : Table → Table → Type 0
+FrameOf t u = Frame (BlockedOn t) (Impedes t) (BlockedOn u) (Impedes u)
 
 -- every call keeps it, refused or not
-pub call-frame : (t : Table) → Shaped t → (kind a p o : ℕ) → Frame t (callOf t kind a p o .table)
+pub call-frame : (t : Table) → Shaped t → (kind a p o : ℕ) → FrameOf t (callOf t kind a p o .table)
 call-frame t z kind a p o =
-    record { stays = λ k e b v f c i. go k e b v i (ℕ-discrete kind 9) (ℕ-discrete a k); holds = λ v f b e i. impeding-stays t z kind a p o v f b e i }
+    record { stays = λ k e b v f c i. go k e b v i (ℕ-discrete kind 9) (ℕ-discrete a k); keeps = λ v f b e i. impeding-stays t z kind a p o v f b e i }
   where
     go : (k : ℕ) (e : Event) → BlockedOn t k e → (v : ℕ) → Impedes t v e → Dec (kind ≡ 9) → Dec (a ≡ k) → BlockedOn (callOf t kind a p o .table) k e
     go k e b v i (no x) d = blocked-stays t z kind a p o k e b (λ y. x (y .0))
@@ -145,8 +145,8 @@ pub record Fewer (t u : Table) : Type 0 where
   pub blocked : (k : ℕ) (e : Event) → BlockedOn u k e → BlockedOn t k e
   pub impedes : (v : ℕ) (e : Event) → Impedes u v e → Impedes t v e
 
-pub fewer-frame : (t u : Table) → Fewer t u → Frame u t
-fewer-frame t u f = record { stays = λ k e b v g c i. f .blocked k e b; holds = λ v g b e i. f .impedes v e i }
+pub fewer-frame : (t u : Table) → Fewer t u → FrameOf u t
+fewer-frame t u f = record { stays = λ k e b v g c i. f .blocked k e b; keeps = λ v g b e i. f .impedes v e i }
 
 module _ (t : Table) (z : Shaped t) (a p o : ℕ) where
   same : (n : ℕ) → Fewer t t

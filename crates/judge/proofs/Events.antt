@@ -15,7 +15,7 @@ use Rattle.hall.specs.Waiting.{BlockedOn, Impedes}
 use Rattle.hall.specs.declared.table.Event.{Event}
 use Rattle.hall.specs.declared.table.Table.{Table}
 use Rattle.judge.specs.Routes.{EventRoute}
-use Rattle.judge.specs.Loops.{Blockeds, eventOf}
+use Rattle.judge.specs.Loops.{BlockedSet, eventOf}
 use Rattle.judge.proofs.States.{blocked-inv, blocked-of, one-event, event-is, event-read}
 
 module _ (t : Table) where
@@ -31,7 +31,7 @@ module _ (t : Table) where
     pub covers : (k : ℕ) → Named k → Has left k
     pub held : (k : ℕ) → Has left k → (Has todo k → ⊥) → (e : Event) → BlockedOn t k e → (u : ℕ) × Has left u × Impedes t u e
 
-  pub search-start : (m : ℕ) → m < 2 ^ 32 → Blockeds t m → Searched m m
+  pub search-start : (m : ℕ) → m < 2 ^ 32 → BlockedSet t m → Searched m m
   search-start m f b = record {
     fits = f;
     fits-todo = f;

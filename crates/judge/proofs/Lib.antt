@@ -8,4 +8,3 @@ pub mod One
 pub mod Answers
 pub mod Verdicts
 pub mod Twins
-pub mod Bench

@@ -5,7 +5,7 @@ use Prim.Native.Nat.{ℕ, zero, suc, _≤_}
 use native.Mathlib.Omega.{arith}
 use Rattle.sets.specs.Set.{Has}
 use Rattle.deadlock.specs.Waiting.{TaskNamed, EventNamed, Stuck}
-use Rattle.deadlock.proofs.Theory.{stuck-named, named-stuck, named-events, events-named, named-held}
+use Rattle.deadlock.proofs.Theory.{named-events, events-named, named-held, named-set-stuck, events-set-named}
 use Rattle.hall.specs.Waiting.{BlockedOn, Impedes}
 use Rattle.hall.specs.declared.table.Table.{Table}
 use Rattle.judge.specs.Routes.{TaskRoute, EventRoute}
@@ -15,15 +15,14 @@ use Rattle.judge.proofs.Sets.{same-members}
 module _ (t : Table) where
   -- ---- demand 2: the named set is the set of tasks that some totally deadlocked set holds
   pub task-stuck : (m : ℕ) → TaskRoute t m → (k : ℕ) → Has m k ↔ Stuck (BlockedOn t) (Impedes t) k
-  task-stuck m r k = (λ h. named-stuck (BlockedOn t) (Impedes t) k (r .iff k .0 h), λ s. r .iff k .1 (stuck-named (BlockedOn t) (Impedes t) k s))
+  task-stuck m r = named-set-stuck (BlockedOn t) (Impedes t) m (r .iff)
 
   pub task-event : (m : ℕ) → TaskRoute t m → EventRoute t m
   task-event m r =
       record { iff = λ k. (λ h. named-events (BlockedOn t) (Impedes t) k (r .iff k .0 h), λ w. r .iff k .1 (events-named (BlockedOn t) (Impedes t) k w)) }
 
   pub event-task : (m : ℕ) → EventRoute t m → TaskRoute t m
-  event-task m r =
-      record { iff = λ k. (λ h. events-named (BlockedOn t) (Impedes t) k (r .iff k .0 h), λ w. r .iff k .1 (named-events (BlockedOn t) (Impedes t) k w)) }
+  event-task m r = record { iff = events-set-named (BlockedOn t) (Impedes t) m (r .iff) }
 
   pub event-stuck : (m : ℕ) → EventRoute t m → (k : ℕ) → Has m k ↔ Stuck (BlockedOn t) (Impedes t) k
   event-stuck m r = task-stuck m (event-task m r)

@@ -9,8 +9,8 @@ use native.Mathlib.Omega.{arith}
 use lib.Bits.{bitOr}
 use lib.Pow.{pow-pos, shr-shr, split}
 use Rattle.sets.specs.Set.{Has, LowestOf}
-use Rattle.sets.proofs.Members.{Put, Taken, has-lt, none-zero, or-iff, power-iff, same-set, taken-lt, taken-out}
-use Rattle.sets.proofs.Loops.{Sifted, Built, build-start, build-put, build-skip}
+use Rattle.sets.proofs.Members.{Put, Taken, has-lt, none-zero, or-iff, power-iff, same-set, taken-lt}
+use Rattle.sets.proofs.Loops.{Sifted, sift-more, Built, build-start, build-put, build-skip}
 
 -- the set without the task, unless it stays
 abbrev pub Kept : ℕ → ℕ → Bool → ℕ → Type 0
@@ -27,14 +27,12 @@ module _ {m t : ℕ} (fits : m < 2 ^ 32) (some : m ≡ 0 → ⊥) (low : LowestO
   pub lowest-less : (r : ℕ) → r < 2 ^ 32 → Taken m t r → r < m
   lowest-less r f p = taken-lt 32 m t r f lowest-has p
 
--- one task looked at: it stays exactly where it has P
-pub sift-more : (P : ℕ → Type 0) {among kept left t rest r : ℕ} {b : Bool} → Sifted P among kept left → Taken left t rest → ((b ≡ true) ↔ P t) → Kept kept t b r
+-- one task looked at: it stays exactly where it has P, as a test says
+pub sift-if : (P : ℕ → Type 0) {among kept left t rest r : ℕ} {b : Bool} → Sifted P among kept left → Taken left t rest → ((b ≡ true) ↔ P t) → Kept kept t b r
     → Sifted P among r rest
-sift-more P {left} {t} {rest} g taken iff out = record {
-  inside = λ k h. g .inside k (out k .0 h .0);
-  keeps = λ k h p. out k .1 (g .keeps k h p, λ e. iff .1 (subst P e p));
-  seen = λ k h n. ⊎-elim (λ e. subst P (sym e) (iff .0 (out k .0 h .1 e))) (g .seen k (out k .0 h .0)) (taken-out left t rest k taken n);
-}
+sift-if P {among} {kept} {left} {t} {rest} {r} g taken iff out =
+    sift-more P among kept left t rest g taken r
+    (λ k. (λ h. let q = out k .0 h in (q .0, λ e. iff .0 (q .1 e)), λ h. out k .1 (h .0, λ e. iff .1 (h .1 e))))
 
 -- ---- two sets that have exactly those with P, at any width
 above : (n : ℕ) → n < 2 ^ n

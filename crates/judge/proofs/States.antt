@@ -17,7 +17,7 @@ use Rattle.hall.specs.declared.table.State.{State}
 use Rattle.hall.specs.declared.table.State.the-variants.{Free, Running, Blocked}
 use Rattle.hall.specs.declared.table.Table.{Table}
 use Rattle.judge.specs.Verdict.{ImpedesTask}
-use Rattle.judge.specs.Loops.{Blockeds, eventOf, sameOf, awaitsOf, slow}
+use Rattle.judge.specs.Loops.{BlockedSet, eventOf, sameOf, awaitsOf, impedesAt}
 
 pub and-inv : (a b : Bool) → (a && b) ≡ true → (a ≡ true) × (b ≡ true)
 and-inv true b e = (refl, e)
@@ -53,8 +53,8 @@ blocked-lt t k e h = go (ltb k 32) refl
     go true q = ltb-true k 32 q
     go false q = absurd (false≢true (ap isBlocked (rw q at h)))
 
-pub blockeds : (t : Table) (m : ℕ) → Sifted (λ k. isBlocked (stateAt t k) ≡ true) (2 ^ 32 - 1) m 0 → Blockeds t m
-blockeds t m g = record { iff = λ k. (λ h. done k .0 h .1, λ b. let e = blocked-inv (stateAt t k) b in done k .1 (full-has 32 k (blocked-lt t k (e .0) (e .1)), b)) }
+pub blocked-set : (t : Table) (m : ℕ) → Sifted (λ k. isBlocked (stateAt t k) ≡ true) (2 ^ 32 - 1) m 0 → BlockedSet t m
+blocked-set t m g = record { iff = λ k. (λ h. done k .0 h .1, λ b. let e = blocked-inv (stateAt t k) b in done k .1 (full-has 32 k (blocked-lt t k (e .0) (e .1)), b)) }
   where
     done : (k : ℕ) → Has m k ↔ (Has (2 ^ 32 - 1) k × (isBlocked (stateAt t k) ≡ true))
     done = sift-done _ (2 ^ 32 - 1) m g
@@ -82,25 +82,16 @@ awaits-iff s e = (into s, from s)
 
 -- ---- who impedes
 -- the code's entry is the one of the event's phaser, where there is such a phaser
-slow-is : (t : Table) (u : ℕ) (e : Event) → u < 32
-    → slow (getD (t .members) (u * 16 + e .phaser .0 % 16) false) (getD (t .phases) (u * 16 + e .phaser .0 % 16) phase0) e ≡ impedesOf t u e
-unfolding slow impedesOf memberAt phaseAt
-slow-is t u e l = go (ltb (e .phaser .0) 16) refl
+impedes-at : (t : Table) (u : ℕ) (e : Event) → u < 32
+    → impedesAt (getD (t .members) (u * 16 + e .phaser .0 % 16) false) (getD (t .phases) (u * 16 + e .phaser .0 % 16) phase0) e ≡ impedesOf t u e
+unfolding impedesAt impedesOf memberAt phaseAt
+impedes-at t u e l = go (ltb (e .phaser .0) 16) refl
   where
     go : (b : Bool) → ltb (e .phaser .0) 16 ≡ b
         → (ltb (e .phaser .0) 16 && behind (getD (t .members) (u * 16 + e .phaser .0 % 16) false) (getD (t .phases) (u * 16 + e .phaser .0 % 16) phase0 .0) (e .phase .0))
         ≡ behind (ltb u 32 && ltb (e .phaser .0) 16 && getD (t .members) (u * 16 + e .phaser .0) false) (cond (ltb u 32 && ltb (e .phaser .0) 16) (getD (t .phases) (u * 16 + e .phaser .0) phase0 .0) 0) (e .phase .0)
     go true q = rw (lt-ltb u 32 l, q, mod-eq-of-lt (ltb-true (e .phaser .0) 16 q)) refl
     go false q = rw (lt-ltb u 32 l, q) refl
-
--- a task that impedes has a number below 32
-pub impedes-lt : (t : Table) (u : ℕ) (e : Event) → Impedes t u e → u < 32
-unfolding impedesOf memberAt
-impedes-lt t u e h = go (ltb u 32) refl
-  where
-    go : (b : Bool) → ltb u 32 ≡ b → u < 32
-    go true q = ltb-true u 32 q
-    go false q = absurd (false≢true (rw q at h))
 
 -- nobody impedes the event of no phaser
 no-phaser : (t : Table) (u : ℕ) → Impedes t u (event 16 0) → ⊥
@@ -138,7 +129,7 @@ module _ (t : Table) (k : ℕ) (l : k < 32) where
 
   -- whether it impedes e
   pub impedes-read : (e : Event) (p : ℕ) (b : Bool) → p ≡ e .phaser .0 % 16
-      → b ≡ slow (getD (t .members) (k * 16 + p) false) (getD (t .phases) (k * 16 + p) phase0) e → (b ≡ true) ↔ Impedes t k e
+      → b ≡ impedesAt (getD (t .members) (k * 16 + p) false) (getD (t .phases) (k * 16 + p) phase0) e → (b ≡ true) ↔ Impedes t k e
   impedes-read e p b c h =
-      let q = h ∙ ap (λ j. slow (getD (t .members) (k * 16 + j) false) (getD (t .phases) (k * 16 + j) phase0) e) c ∙ slow-is t k e l in
+      let q = h ∙ ap (λ j. impedesAt (getD (t .members) (k * 16 + j) false) (getD (t .phases) (k * 16 + j) phase0) e) c ∙ impedes-at t k e l in
       (λ y. sym q ∙ y, λ y. q ∙ y)

@@ -19,11 +19,11 @@ use Rattle.hall.specs.Waiting.{BlockedOn, Impedes}
 use Rattle.hall.specs.declared.table.Table.{Table}
 use Rattle.judge.specs.Routes.{TaskRoute}
 use Rattle.judge.specs.Verdict.{ImpedesTask}
-use Rattle.judge.specs.Loops.{Blockeds, RowsOf, NextsOf}
+use Rattle.judge.specs.Loops.{BlockedSet, RowsOf, NextsOf}
 use Rattle.judge.proofs.States.{blocked-inv, blocked-of, blocked-lt}
 
 -- ---- the rows among the blocked are the edges of the task route
-module _ (t : Table) (b : ℕ) (rows : List ℕ) (s : Blockeds t b) (g : RowsOf t b rows) where
+module _ (t : Table) (b : ℕ) (rows : List ℕ) (s : BlockedSet t b) (g : RowsOf t b rows) where
   row-edge : (k u : ℕ) → Row rows k u → TaskEdge (BlockedOn t) (Impedes t) k u
   row-edge k u r =
       let q = g .iff k u .0 (r .1) in

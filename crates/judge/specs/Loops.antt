@@ -33,10 +33,11 @@ awaitsOf Running e = false
 awaitsOf (Blocked f) e = sameOf f e
 
 -- an entry that impedes e, read at e's column
-unfoldable pub slow : Bool → Phase → Event → Bool
-slow member phase e = ltb (e .phaser .0) 16 && behind member (phase .0) (e .phase .0)
+unfoldable pub impedesAt : Bool → Phase → Event → Bool
+impedesAt member phase e = ltb (e .phaser .0) 16 && behind member (phase .0) (e .phase .0)
 
-pub record Blockeds (t : Table) (m : ℕ) : Type 0 where
+-- the blocked tasks
+pub record BlockedSet (t : Table) (m : ℕ) : Type 0 where
   pub iff : (k : ℕ) → Has m k ↔ (isBlocked (stateAt t k) ≡ true)
 
 -- in row k, where k is of `among`, those of `among` that impede k's event

@@ -10,7 +10,7 @@ ghost use mathlib.Core.Bool.{true};
 ghost use mathlib.Core.Logic.{_↔_};
 ghost use Prim.Native.Nat.{ℕ, _%_};
 ghost use Rattle.sets.specs.Set.{Has};
-ghost use Rattle.judge.specs.Loops.{Blockeds, awaitsOf, eventOf, sameOf, slow};
+ghost use Rattle.judge.specs.Loops.{BlockedSet, awaitsOf, eventOf, sameOf, impedesAt};
 
 // The event that the task awaits; where it awaits none, one of no phaser, which nobody impedes.
 pub fn event_of(task: Task) -> Event
@@ -62,7 +62,7 @@ pub fn column(event: Event) -> usize
 
 // Whether the task impedes the event, by its entry for the event's phaser.
 pub fn impedes(member: bool, phase: Phase, event: Event) -> bool
-    ensures { λ r. ⌜ r ≡ slow member phase event ⌝ }
+    ensures { λ r. ⌜ r ≡ impedesAt member phase event ⌝ }
 {
     let p = event.phaser.0;
     let awaited = event.phase;
@@ -78,7 +78,7 @@ pub fn kept(set: u32, task: usize, stays: bool) -> u32
 
 // The blocked tasks.
 pub fn blocked(table: Table) -> u32
-    ensures { λ r. ⌜ Blockeds table r ⌝ }
+    ensures { λ r. ⌜ BlockedSet table r ⌝ }
 {
     let mut set: u32 = 0xffff_ffff;
     let mut left: u32 = 0xffff_ffff;

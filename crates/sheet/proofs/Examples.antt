@@ -1,4 +1,4 @@
--- Worked examples: document 01's P12, its sheets, and for each refusal a shortest sheet that is given it.
+-- Worked examples: document 01's P12, its sheets, and for each refusal a sheet of the fewest bytes that get it (that none is shorter is not proved).
 use Prim.Native.Nat.{ℕ}
 use mathlib.Core.Path.{_≡_, refl}
 use mathlib.Core.Bool.{true}

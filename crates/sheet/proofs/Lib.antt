@@ -9,5 +9,6 @@ mod Gather
 pub mod Accepted
 pub mod Written
 pub mod Settled
+pub mod Bytes
 pub mod Theorems
 pub mod Examples

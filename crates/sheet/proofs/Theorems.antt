@@ -21,6 +21,7 @@ use Rattle.sheet.proofs.Same.{Same, fine, none, same-holds}
 use Rattle.sheet.proofs.Numbers.{Bytes}
 use Rattle.sheet.proofs.Accepted.{accepted}
 use Rattle.sheet.proofs.Written.{written}
+use Rattle.sheet.proofs.Bytes.{sheet-bytes}
 use Rattle.sheet.proofs.Settled.{longest, settles}
 
 -- the answer is 0 and the table t
@@ -54,6 +55,10 @@ one-sheet s s' b b' t h h' = accepts s b t .0 h .2 ∙ sym (accepts s' b' t .0 h
 -- "The longest sheet has 2,291 bytes"
 pub no-longer : (s : List ℕ) → Bytes s → (t : Table) → Accepts s t → length s ≤ 2291
 no-longer s b t h = longest s b (table-of s b t h .1)
+
+-- nor has any sound table a longer one
+pub written-no-longer : (t : Table) → Sound t → Shaped t → length (sheetOf t) ≤ 2291
+written-no-longer t h sh = no-longer (sheetOf t) (sheet-bytes t) t (accepts (sheetOf t) (sheet-bytes t) t .1 (h, sh, refl))
 
 -- "So reading 2,292 settles any input"
 pub settled : (s : List ℕ) → Bytes s → sheetAt s ≡ sheetAt (take 2292 s)

@@ -4,7 +4,7 @@ use native.Mathlib.Omega.{arith}
 use Rattle.hall.specs.Waiting.{Impedes}
 use Rattle.sets.proofs.Loops.{Sifted, sift-start}
 use Rattle.judge.proofs.States.{impedes-read}
-use Rattle.judge.proofs.Sets.{lowest-has, lowest-lt, lowest-less, sift-more}
+use Rattle.judge.proofs.Sets.{lowest-has, lowest-lt, lowest-less, sift-if}
 use Rattle.judge.proofs.Rows.{Filled, fill-start, fill-more, fill-done}
 use Rattle.judge.proofs.edges.edges.Statement.{statement}
 use Rattle.judge.proofs.edges.edges.Tie as tie
@@ -85,7 +85,7 @@ loop2-less c =
 loop2-again : tie.Need-loop2-again Inv-loop2 μ-loop2 Inv-loop μ-loop
 loop2-again c =
     let iff = impedes-read _ _ (near (c .before .before .before .before .before)) _ _ _ (c .before .before .before .before .before .before .before .before .column .ensures) (c .before .before .impedes .ensures) in
-    (c .take .ok, sift-more _ (c .before .before .before .before .before .before .before .loop2 .inv .1) (c .take .ensures) iff (c .before .kept .ensures))
+    (c .take .ok, sift-if _ (c .before .before .before .before .before .before .before .loop2 .inv .1) (c .take .ensures) iff (c .before .kept .ensures))
 
 mul-rows : tie.Need-mul-rows Inv-loop2 μ-loop2 Inv-loop μ-loop
 mul-rows c = let l = at (c .before .before .before .before .before) in omega arith

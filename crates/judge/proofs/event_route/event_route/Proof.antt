@@ -4,7 +4,7 @@ use native.Mathlib.Omega.{arith}
 use Rattle.hall.specs.Waiting.{BlockedOn, Impedes}
 use Rattle.sets.proofs.Loops.{Sifted, sift-start}
 use Rattle.judge.proofs.States.{awaits-read, impedes-read}
-use Rattle.judge.proofs.Sets.{lowest-has, lowest-lt, lowest-less, sift-more}
+use Rattle.judge.proofs.Sets.{lowest-has, lowest-lt, lowest-less, sift-if}
 use Rattle.judge.proofs.Events.{Searched, Looked, search-start, search-keep, search-drop, search-done, keep-less, drop-less}
 use Rattle.judge.proofs.event_route.event_route.Statement.{statement}
 use Rattle.judge.proofs.event_route.event_route.Tie as tie
@@ -102,8 +102,8 @@ loop2-again c =
     let awaits = awaits-read _ _ l _ _ (c .before .before .awaits .ensures) in (
       c .take .ok,
       c .before .before .before .before .kept .ok,
-      sift-more _ (at .before .loop2 .inv .2) (c .take .ensures) impedes (c .before .before .before .before .kept .ensures),
-      sift-more _ (at .before .loop2 .inv .3) (c .take .ensures) awaits (c .before .kept2 .ensures),
+      sift-if _ (at .before .loop2 .inv .2) (c .take .ensures) impedes (c .before .before .before .before .kept .ensures),
+      sift-if _ (at .before .loop2 .inv .3) (c .take .ensures) awaits (c .before .kept2 .ensures),
     )
 
 less-requires : tie.Need-less-requires Inv-loop2 μ-loop2 Inv-loop μ-loop

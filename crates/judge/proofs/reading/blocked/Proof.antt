@@ -5,8 +5,8 @@ use Prim.Native.Nat.{_-_, _^_, _<_}
 use native.Mathlib.Omega.{arith}
 use Rattle.hall.specs.Table.{isBlocked, stateAt}
 use Rattle.sets.proofs.Loops.{Sifted, sift-start}
-use Rattle.judge.proofs.States.{blocked-read, blockeds}
-use Rattle.judge.proofs.Sets.{lowest-lt, lowest-less, sift-more}
+use Rattle.judge.proofs.States.{blocked-read, blocked-set}
+use Rattle.judge.proofs.Sets.{lowest-lt, lowest-less, sift-if}
 use Rattle.judge.proofs.reading.blocked.Statement.{statement}
 use Rattle.judge.proofs.reading.blocked.Tie as tie
 
@@ -47,10 +47,10 @@ loop-again c =
     let at = c .before .before .before .before .before in
     let low = c .before .before .before .before .lowest .ensures in
     let iff = blocked-read _ _ (lowest-lt (at .before .loop .inv .0) (at .loop-test .taken) low) _ (c .before .before .is-blocked .ensures) in
-    (c .take .ok, sift-more _ (at .before .loop .inv .1) (c .take .ensures) iff (c .before .kept .ensures))
+    (c .take .ok, sift-if _ (at .before .loop .inv .1) (c .take .ensures) iff (c .before .kept .ensures))
 
 returns : tie.Need-returns Inv-loop μ-loop
-returns c = blockeds _ _ (rw (c .loop-test .left) at (c .before .loop .inv .1))
+returns c = blocked-set _ _ (rw (c .loop-test .left) at (c .before .loop .inv .1))
 
 pub blocked-spec : {M : Type 1} → statement M
 blocked-spec =

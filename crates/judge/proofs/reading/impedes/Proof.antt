@@ -1,7 +1,7 @@
 use mathlib.Core.Bool.{_&&_}
 use mathlib.Core.Path.{ap}
 use lib.Dec.{ltb}
-use Rattle.judge.specs.Loops.{slow}
+use Rattle.judge.specs.Loops.{impedesAt}
 use Rattle.judge.proofs.reading.impedes.Statement.{statement}
 use Rattle.judge.proofs.reading.impedes.Tie as tie
 
@@ -9,7 +9,7 @@ behind-requires : tie.Need-behind-requires
 behind-requires c κs = tt
 
 returns : tie.Need-returns
-unfolding slow
+unfolding impedesAt
 returns c = ap (λ b. ltb (c .before .before .args .event .phaser .0) 16 && b) (c .behind .ensures)
 
 pub impedes-spec : {M : Type 1} → statement M

@@ -1,3 +1,4 @@
+-- The groups so far stand as a value below a weight; those that may follow, carried over it, give the number.
 use borrow.Author.Needs.{needs}
 use native.Mathlib.Omega.{arith}
 use mathlib.Core.Path.{_≡_, sym, _∙_}

@@ -1,0 +1,116 @@
+-- Document 01, 'Bench cases': "P1 to P12 form one table, proved by one statement over it."
+use mathlib.Core.Path.{_≡_}
+use mathlib.Core.Bool.{true}
+use mathlib.Core.List.{List, [], _∷_, _++_}
+use Prim.Native.Nat.{ℕ, _+_, _-_, _^_, _≤_}
+use lib.ListN.{length, replicate}
+use Rattle.hall.specs.Answers.{done, noneFree, phaseTooLarge}
+use Rattle.hall.specs.Effects.{withState, withEntry, withOpen}
+use Rattle.hall.specs.Table.{largestPhase, event, freshTable}
+use Rattle.hall.specs.declared.table.State.the-variants.{Running, Blocked}
+use Rattle.hall.specs.declared.table.Table.{Table}
+use Rattle.judge.specs.Verdict.{Judged}
+use Rattle.judge.specs.declared.verdict.Verdict.{Verdict}
+use Rattle.sheet.specs.Answers.{needlessGroup, tooLarge}
+use Rattle.sheet.specs.Got.{Got, value, refused}
+use Rattle.sheet.specs.Number.{numberAt}
+use Rattle.demands.specs.Series.{Call, made, Series}
+
+-- ---- what a row states
+pub data Row : Type 0 where
+  -- of a table: whom either route names, and the ring
+  judged : Table → List ℕ → List ℕ → Row
+  -- after a series of calls from a table: a call, its answer and its value
+  called : Table → List Call → Call → ℕ → ℕ → Row
+  -- of bytes: the number there, up to its field's largest value, and the next place
+  read : List ℕ → ℕ → Got ℕ → Row
+
+abbrev pub setOf : List ℕ → ℕ
+setOf [] = 0
+setOf (k ∷ tasks) = 2 ^ k + setOf tasks
+
+unfoldable pub statedOf : List ℕ → List ℕ → Verdict
+statedOf named ring = record {
+  answer = done;
+  named = setOf named;
+  count = length named;
+  length = length ring;
+  ring = ring ++ replicate (32 - length ring) 255;
+}
+
+-- the table that a series leaves
+abbrev pub after : Table → List Call → Table
+after t [] = t
+after t (c ∷ calls) = after (made t c .table) calls
+
+abbrev pub Holds : Row → Type 0
+Holds (judged t named ring) = (route : ℕ) (v : Verdict) → route ≤ 1 → Judged t route v → v ≡ statedOf named ring
+Holds (called t before c answer val) = Series t before × (made (after t before) c .answer ≡ answer) × (made (after t before) c .value ≡ val)
+Holds (read bytes largest got) = numberAt bytes largest 0 ≡ got
+
+abbrev pub Each : (Row → Type 0) → List Row → Type 0
+Each P [] = Unit {0}
+Each P (r ∷ rows) = P r × Each P rows
+
+-- ---- the bench's words
+-- "task k waits (p, n)"; "task k runs"
+abbrev pub waits : Table → ℕ → ℕ → ℕ → Table
+waits t k p n = withState t k (Blocked (event p n))
+
+abbrev pub runs : Table → ℕ → Table
+runs t k = withState t k Running
+
+-- "0: 1@0" reads: on phaser 0, task 1 has phase 0
+abbrev pub on : Table → ℕ → ℕ → ℕ → Table
+on t p k n = withEntry (withOpen t p true) k p true n
+
+abbrev pub call : ℕ → ℕ → ℕ → ℕ → Call
+call kind task phaser other = record { kind = kind; task = task; phaser = phaser; other = other }
+
+abbrev pub openTask : Call
+openTask = call 0 0 0 0
+
+-- task 0 runs, and has phase n on phaser 0
+abbrev pub atPhase : ℕ → Table
+atPhase n = on (runs freshTable 0) 0 0 n
+
+unfoldable pub p4 : Table
+p4 = on (on (on (on (waits (waits freshTable 0 0 1) 1 1 1) 0 0 1) 0 1 0) 1 0 0) 1 1 1
+
+unfoldable pub p7 : Table
+p7 = on (on (on (on (on (on (runs (waits (waits freshTable 0 0 2) 1 1 1) 2) 0 0 2) 0 1 2) 0 2 0) 1 0 0) 1 1 1) 1 2 0
+
+-- ---- the table
+unfoldable pub rows : List Row
+rows =
+    -- P1 Fresh table: nobody.
+    judged freshTable [] []
+    -- P2 Task 0 waits (0,1); 0: 0@0. Named 0, ring 0.
+    ∷ judged (on (waits freshTable 0 0 1) 0 0 0) (0 ∷ []) (0 ∷ [])
+    -- P3 Task 0 waits (0,1); 0: 0@1, 1@0; task 1 runs. Nobody.
+    ∷ judged (on (on (runs (waits freshTable 0 0 1) 1) 0 0 1) 0 1 0) [] []
+    -- P4 Task 0 waits (0,1), task 1 waits (1,1); 0: 0@1, 1@0; 1: 0@0, 1@1. Named 0 1, ring 0 1.
+    ∷ judged p4 (0 ∷ 1 ∷ []) (0 ∷ 1 ∷ [])
+    -- P5 P4 with task 0 at phase 1 on phaser 1. Nobody: task 1's wait is met.
+    ∷ judged (on p4 1 0 1) [] []
+    -- P6 P4 and task 2 waits (0,1); 0: 2@1. Named 0 1 2, ring 0 1.
+    ∷ judged (on (waits p4 2 0 1) 0 2 1) (0 ∷ 1 ∷ 2 ∷ []) (0 ∷ 1 ∷ [])
+    -- P7 Task 0 waits (0,2), task 1 waits (1,1), task 2 runs; 0: 0@2, 1@2, 2@0; 1: 0@0, 1@1, 2@0. Nobody.
+    ∷ judged p7 [] []
+    -- P8 P7 with task 2 blocked on (2,1); 2: 2@0. Named 0 1 2, ring 2.
+    ∷ judged (on (waits p7 2 2 1) 2 2 0) (0 ∷ 1 ∷ 2 ∷ []) (2 ∷ [])
+    -- P9 Task 0 waits (0,1), task 1 waits (1,1), task 2 runs; 0: 0@1, 1@0, 2@0; 1: 1@0. Named 0 1, ring 1.
+    ∷ judged (on (on (on (on (runs (waits (waits freshTable 0 0 1) 1 1 1) 2) 0 0 1) 0 1 0) 0 2 0) 1 1 0) (0 ∷ 1 ∷ []) (1 ∷ [])
+    -- P10 Arriving from 65,534 gives 65,535; from 65,535 it is 15. Waiting at 65,536 is 15.
+    ∷ called (atPhase 65534) [] (call 6 0 0 0) done 65535
+    ∷ called (atPhase 65535) [] (call 6 0 0 0) phaseTooLarge 0
+    ∷ called (atPhase 0) [] (call 8 0 0 65536) phaseTooLarge 0
+    -- P11 The 33rd open task is 16; after task 4 ends, the next is 4.
+    ∷ called freshTable (replicate 32 openTask) openTask noneFree 0
+    ∷ called freshTable (replicate 32 openTask ++ (call 1 4 0 0 ∷ [])) openTask done 4
+    -- P12 `AC 02` is 300; `FF FF 03` is 65,535; `80 00` is 31; `80 80 04` as a phase is 32.
+    ∷ read (172 ∷ 2 ∷ []) largestPhase (value 300 2)
+    ∷ read (255 ∷ 255 ∷ 3 ∷ []) largestPhase (value 65535 3)
+    ∷ read (128 ∷ 0 ∷ []) largestPhase (refused needlessGroup)
+    ∷ read (128 ∷ 128 ∷ 4 ∷ []) largestPhase (refused tooLarge)
+    ∷ []
