@@ -17,10 +17,11 @@ use Rattle.judge.specs.declared.verdict.Verdict.{Verdict}
 use Rattle.judge.proofs.Answers.{answer-0, judged-holds}
 use Rattle.judge.proofs.One.{routes-agree}
 use Rattle.judge.proofs.Twins.{judgeOf, judgeOf-judged}
+use Rattle.mollavisce.proofs.Entered.{refused-kept}
 use Rattle.demands.specs.Series.{StuckIn, WayOn}
 use Rattle.demands.specs.Demands.{Demand1, Demand2, Verdicts, Demand3, Demands}
 use Rattle.demands.proofs.Moves.{by-rules}
-use Rattle.demands.proofs.Sheets.{sheet-answered, accepted-iff, refused-kept, strip-judged}
+use Rattle.demands.proofs.Sheets.{sheet-answered, accepted-iff, strip-judged}
 use Rattle.demands.proofs.WayOn.{stuck-or-way-on, stuck-iff-never}
 
 demand-1 : Demand1
