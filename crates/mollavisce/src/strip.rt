@@ -22,7 +22,7 @@ fn head(verdict: Verdict) -> [u8; 6]
 }
 
 // The strip with the verdict's bytes for its first 38.
-pub fn lay(strip: &mut [u8], verdict: Verdict)
+pub(crate) fn lay(strip: &mut [u8], verdict: Verdict)
     requires { ⌜ (38 ≤ length (now strip)) × (verdict .count < 256) × (verdict .length < 256) ⌝ }
     ensures { λ _. ⌜ now (strip .exit) ≡ stripOf verdict ++ drop 38 (now (strip .entry)) ⌝ }
 {
