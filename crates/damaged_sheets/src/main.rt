@@ -1,9 +1,10 @@
 // Seven sheets, whole and damaged at each byte, judged through the entry: a line for each, `base damage place answer`, and where the
 // answer is 0 also the mask, the count, the ring's length and the ring. Damages: 0 none; 1 cut before the place; the byte at the place
-// 2 with its top bit turned, 3 one higher, 4 made 0, 5 made 255; 6 a byte added, the number of the place.
+// 2 with its top bit turned, 3 one higher, 4 made 0, 5 made 255; 6 a byte added, the number of the place. What it is to write was worked
+// out by host/model/model.py, which has its own reader of document 01 and walks both routes.
 use mollavisce::entry::sheet_verdict;
 
-// The byte at a damaged place.
+// The damaged byte.
 fn changed(byte: u8, damage: u64) -> u8 {
     if damage == 2 {
         return if byte < 128 { byte + 128 } else { byte - 128 };
@@ -17,6 +18,7 @@ fn changed(byte: u8, damage: u64) -> u8 {
     if damage == 5 { 255 } else { byte }
 }
 
+// The byte at a place of the damaged sheet; past its end, the byte that damage 6 adds.
 fn byte_after(sheet: &[u8], damage: u64, place: usize, at: usize) -> u8 {
     if sheet.len() <= at {
         return (place % 256) as u8;
@@ -92,6 +94,7 @@ fn judge(sheet: &[u8], place: usize) {
     }
 }
 
+// Judges the first `length` bytes; every sheet here has room in 40.
 fn judge_first(bytes: [u8; 40], length: usize, place: usize) {
     if length <= 40 {
         judge(&bytes[..length], place);
@@ -110,6 +113,7 @@ fn line(base: u64, sheet: &[u8], damage: u64, place: usize) {
     io::write_all(1, b"\n");
 }
 
+// How many places are damaged in turn.
 fn places(length: usize, damage: u64) -> usize {
     if (damage == 0) | (damage == 6) {
         2
