@@ -31,7 +31,7 @@ use Rattle.hall.proofs.Rows.{row-effect, open-task-row, end-task-row}
 use Rattle.hall.proofs.Soundness.{fresh-shaped, fresh-sound}
 use Rattle.judge.specs.Loops.{eventOf}
 use Rattle.judge.proofs.One.{routes-agree}
-use Rattle.judge.proofs.Sets.{maskOf}
+use Rattle.sets.proofs.Masks.{maskOf}
 use Rattle.judge.proofs.Twins.{rowsOf, namedIn, ringIn, roundIn, judgeOf, judgeOf-judged}
 use Rattle.sheet.specs.Number.{plainAt, numberAt}
 use Rattle.bench.specs.Bench.{Row, judged, called, read, statedOf, after, Holds, Each, call, openTask, p4, p7, rows}

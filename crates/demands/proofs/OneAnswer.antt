@@ -8,7 +8,7 @@ use Rattle.deadlock.specs.Walk.{EndlessWalk, Row}
 use Rattle.deadlock.proofs.One.{ring-in-one}
 use Rattle.judge.proofs.Named.{task-one, event-one}
 use Rattle.judge.proofs.One.{judged-one}
-use Rattle.judge.proofs.Sets.{same-members}
+use Rattle.sets.proofs.Widths.{same-members}
 use Rattle.sheet.proofs.Theorems.{one-number}
 use Rattle.mollavisce.proofs.One.{sheet-judged-one, entered-one}
 use Rattle.demands.specs.OneAnswer.{OneAnswer}

@@ -21,7 +21,7 @@ use Rattle.judge.specs.Routes.{TaskRoute}
 use Rattle.judge.specs.Verdict.{noStep, noRoute, ImpedesTask, verdictOf, Found, Judged}
 use Rattle.judge.specs.declared.verdict.Verdict.{Verdict}
 use Rattle.judge.proofs.States.{blocked-lt}
-use Rattle.judge.proofs.Sets.{members-fit}
+use Rattle.sets.proofs.Widths.{members-fit}
 use Rattle.judge.proofs.Named.{task-stuck, by-route, named-impeded}
 
 -- ---- the ring walk always finds a task to step to

@@ -10,7 +10,7 @@ use Rattle.hall.specs.Waiting.{BlockedOn, Impedes}
 use Rattle.hall.specs.declared.table.Table.{Table}
 use Rattle.judge.specs.Routes.{TaskRoute, EventRoute}
 use Rattle.judge.specs.Verdict.{ImpedesTask}
-use Rattle.judge.proofs.Sets.{same-members}
+use Rattle.sets.proofs.Widths.{same-members}
 
 module _ (t : Table) where
   -- ---- demand 2: the named set is the set of tasks that some totally deadlocked set holds

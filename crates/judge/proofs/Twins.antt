@@ -31,7 +31,8 @@ use Rattle.judge.specs.Routes.{TaskRoute}
 use Rattle.judge.specs.Verdict.{noRoute, nobody as nobodyOf, ImpedesTask, verdictOf, Judged}
 use Rattle.judge.specs.declared.verdict.Verdict.{Verdict}
 use Rattle.judge.proofs.States.{and-inv, blocked-inv, blocked-of, blocked-lt, impedes-task}
-use Rattle.judge.proofs.Sets.{maskOf, mask-has, members-fit}
+use Rattle.sets.proofs.Masks.{maskOf, mask-has}
+use Rattle.sets.proofs.Widths.{members-fit}
 use Rattle.judge.proofs.Named.{task-event}
 
 -- ---- the edges of the task route, as rows

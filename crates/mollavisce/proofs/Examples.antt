@@ -20,7 +20,7 @@ use Rattle.hall.specs.Waiting.{impedesOf}
 use Rattle.judge.specs.Loops.{eventOf}
 use Rattle.judge.specs.declared.verdict.Verdict.{Verdict}
 use Rattle.judge.proofs.One.{routes-agree}
-use Rattle.judge.proofs.Sets.{maskOf}
+use Rattle.sets.proofs.Masks.{maskOf}
 use Rattle.judge.proofs.Twins.{rowsOf, namedIn, ringIn, roundIn, judgeOf, judgeOf-judged}
 use Rattle.sheet.specs.Fields.{each, openStep, opensAt, countAt, listsAt, headAt, phaseOn, eventAt, blockedAt, stateOn, memberStep, rowAt, entryOn, entryAt, laid, withRow, taskStep, tasksAt, entriesAt, tableAt, sheetAt}
 use Rattle.sheet.specs.Number.{plainAt, numberAt, risingAt}

@@ -16,7 +16,7 @@ use Rattle.hall.proofs.Changes.{blocked-below}
 use Rattle.judge.specs.Verdict.{ImpedesTask}
 use Rattle.judge.specs.declared.verdict.Verdict.{Verdict}
 use Rattle.judge.proofs.Answers.{Holds, judged-holds, answer-0}
-use Rattle.judge.proofs.Sets.{members-fit}
+use Rattle.sets.proofs.Widths.{members-fit}
 use Rattle.sheet.specs.Fields.{sheetAt}
 use Rattle.mollavisce.specs.Entry.{SheetJudged}
 

@@ -4,3 +4,5 @@ pub mod Sizes
 pub mod Least
 pub mod Loops
 pub mod One
+pub mod Widths
+pub mod Masks
