@@ -3,18 +3,18 @@ use mathlib.Core.Path.{_≡_, refl, sym, ap, _∙_, subst}
 use mathlib.Core.Bool.{Bool, false, true≢false}
 use mathlib.Core.Logic.{_↔_}
 use mathlib.Core.List.{List, [], _++_}
-use Prim.Native.Nat.{ℕ, zero, suc, _-_, _^_, _<_}
+use Prim.Native.Nat.{ℕ, zero, suc, _-_, _<_}
 use native.Mathlib.Omega.{arith}
 use lib.ListN.{length, replicate}
-use Rattle.sets.proofs.Members.{same-set}
 use Rattle.sets.proofs.Least.{least-one}
+use Rattle.sets.proofs.Widths.{same-members}
 use Rattle.deadlock.specs.declared.ring.Round.{Round}
 use Rattle.deadlock.specs.Walk.{EndlessWalk, NamedBy}
 use Rattle.deadlock.specs.Ring.{Step, Ring, DeadEnd, Comes, nobody, round, stops, RingIn}
 use Rattle.deadlock.proofs.Rings.{ring-one}
 
-pub named-one : (n : ℕ) (Edge : ℕ → ℕ → Type 0) (a b : ℕ) → a < 2 ^ n → b < 2 ^ n → NamedBy Edge a → NamedBy Edge b → a ≡ b
-named-one n Edge a b fa fb x y = same-set n (EndlessWalk Edge) a b fa fb (x .iff) (y .iff)
+pub named-one : (Edge : ℕ → ℕ → Type 0) (a b : ℕ) → NamedBy Edge a → NamedBy Edge b → a ≡ b
+named-one Edge a b x y = same-members (EndlessWalk Edge) a b (x .iff) (y .iff)
 
 answers : (a b : Bool) (m n : ℕ) (r s : List ℕ) → a ≡ b → m ≡ n → r ≡ s
     → _≡_ {A = Round} (record { closed = a; length = m; tasks = r }) (record { closed = b; length = n; tasks = s })

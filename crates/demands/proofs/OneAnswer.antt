@@ -4,8 +4,8 @@ use Prim.Native.Nat.{ℕ}
 use Rattle.sets.specs.Set.{Has}
 use Rattle.sets.proofs.One.{has-one, lowest-one}
 use Rattle.deadlock.specs.Ring.{Next}
-use Rattle.deadlock.specs.Walk.{EndlessWalk, Row}
-use Rattle.deadlock.proofs.One.{ring-in-one}
+use Rattle.deadlock.specs.Walk.{Row}
+use Rattle.deadlock.proofs.One.{named-one, ring-in-one}
 use Rattle.judge.proofs.Named.{task-one, event-one}
 use Rattle.judge.proofs.One.{judged-one}
 use Rattle.sets.proofs.Widths.{same-members}
@@ -23,7 +23,7 @@ one-answer = record {
   put = λ set task. same-members _;
   take = λ set task. same-members _;
   lowest = lowest-one;
-  named = λ rows a b x y. same-members (EndlessWalk (Row rows)) a b (x .iff) (y .iff);
+  named = λ rows. named-one (Row rows);
   ring = λ next named. ring-in-one (Has named) (Next next);
   phase-at = λ n a b p q. ap (λ (m : ℕ). record { 0 = m }) (p ∙ sym q);
   task-route = task-one;

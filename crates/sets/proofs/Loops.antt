@@ -4,7 +4,7 @@ use mathlib.Core.Logic.{_↔_, _⊎_, inl, inr, ⊎-elim}
 use Prim.Native.Nat.{ℕ, _+_, _<_}
 use native.Mathlib.Decide.{ℕ-discrete}
 use native.Mathlib.Omega.{arith}
-use Rattle.sets.specs.Set.{Has, Least}
+use Rattle.sets.specs.Set.{Has}
 use Rattle.sets.proofs.Members.{Put, Taken, none-has, taken-out}
 
 module _ (P : ℕ → Type 0) where
@@ -26,32 +26,8 @@ module _ (P : ℕ → Type 0) where
       seen = λ k h n. ⊎-elim (λ e. subst P (sym e) (out k .0 h .1 e)) (g .seen k (out k .0 h .0)) (taken-out left t rest k taken n);
     }
 
-    pub sift-keep : P t → Sifted among kept rest
-    sift-keep p = sift-more kept (λ k. (λ h. (h, λ e. p), λ h. h .0))
-
-    pub sift-drop : (P t → ⊥) → (less : ℕ) → Taken kept t less → Sifted among less rest
-    sift-drop ne less out = sift-more less (λ k. (λ h. (out k .0 h .0, λ e. absurd (out k .0 h .1 e)), λ h. out k .1 (h .0, λ e. ne (h .1 e))))
-
   pub sift-done : (among kept : ℕ) → Sifted among kept 0 → (k : ℕ) → Has kept k ↔ (Has among k × P k)
   sift-done among kept g k = (λ h. (g .inside k h, g .seen k h (none-has k)), λ h. g .keeps k (h .0) (h .1))
-
-  -- ---- look for the lowest with P: it is among what is `left`
-  pub record Sought (among left : ℕ) : Type 0 where
-    pub inside : (k : ℕ) → Has left k → Has among k
-    pub ahead : (k : ℕ) → Has among k → P k → Has left k
-
-  pub seek-start : (among : ℕ) → Sought among among
-  seek-start among = record { inside = λ k h. h; ahead = λ k h p. h }
-
-  pub seek-miss : (among left t rest : ℕ) → Sought among left → Taken left t rest → (P t → ⊥) → Sought among rest
-  seek-miss among left t rest g taken ne =
-      record { inside = λ k h. g .inside k (taken k .0 h .0); ahead = λ k h p. taken k .1 (g .ahead k h p, λ e. ne (subst P e p)) }
-
-  pub seek-hit : (among left t : ℕ) → Sought among left → Least (Has left) t → P t → Least (λ k. Has among k × P k) t
-  seek-hit among left t g l p = record { holds = (g .inside t (l .holds), p); lowest = λ k h. l .lowest k (g .ahead k (h .0) (h .1)) }
-
-  pub seek-none : (among : ℕ) → Sought among 0 → (k : ℕ) → Has among k → P k → ⊥
-  seek-none among g k h p = none-has k (g .ahead k h p)
 
   -- ---- put a set together from the bottom: `m` has those below n with P
   pub record Built (m n : ℕ) : Type 0 where

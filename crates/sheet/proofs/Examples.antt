@@ -1,4 +1,4 @@
--- Worked examples: document 01's P12, its sheets, and for each refusal a sheet of the fewest bytes that get it (that none is shorter is not proved).
+-- Worked examples: document 01's sheets, and for each refusal a sheet of the fewest bytes that get it (that none is shorter is not proved).
 use Prim.Native.Nat.{ℕ}
 use mathlib.Core.Path.{_≡_, refl}
 use mathlib.Core.Bool.{true}
@@ -7,16 +7,10 @@ use Rattle.hall.specs.Effects.{withState}
 use Rattle.hall.specs.Table.{event, stateAt, openAt, memberAt, phaseAt, freshTable}
 use Rattle.hall.specs.declared.table.State.the-variants.{Blocked}
 use Rattle.hall.specs.declared.table.Table.{Table}
-use Rattle.sheet.specs.Got.{value, refused}
+use Rattle.sheet.specs.Got.{refused}
 use Rattle.sheet.specs.Number.{plainAt, numberAt, risingAt, numberBytes}
 use Rattle.sheet.specs.Fields.{each, openStep, opensAt, countAt, listsAt, headAt, phaseOn, eventAt, blockedAt, stateOn, memberStep, rowAt, entryOn, entryAt, laid, withRow, taskStep, tasksAt, entriesAt, tableAt, sheetAt}
 use Rattle.sheet.specs.Written.{listed, sheetOf}
-
--- P12: `AC 02` is 300; `FF FF 03` is 65,535; `80 00` is 31; `80 80 04` as a phase is 32
-pub p12 : (numberAt (172 ∷ 2 ∷ []) 65535 0 ≡ value 300 2) × (numberAt (255 ∷ 255 ∷ 3 ∷ []) 65535 0 ≡ value 65535 3)
-    × (numberAt (128 ∷ 0 ∷ []) 65535 0 ≡ refused 31) × (numberAt (128 ∷ 128 ∷ 4 ∷ []) 65535 0 ≡ refused 32)
-unfolding numberAt plainAt
-p12 = (refl, refl, refl, refl)
 
 -- the third byte's top bit comes before a needless group, and the end before both
 pub in-order : (plainAt (128 ∷ 128 ∷ 128 ∷ []) 0 ≡ refused 32) × (plainAt (128 ∷ 128 ∷ 0 ∷ []) 0 ≡ refused 31) × (plainAt (128 ∷ 128 ∷ []) 0 ≡ refused 30)
