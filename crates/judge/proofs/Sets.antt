@@ -29,3 +29,7 @@ pub sift-if : (P : ℕ → Type 0) {among kept left t rest r : ℕ} {b : Bool} �
 sift-if P {among} {kept} {left} {t} {rest} {r} g taken iff out =
     sift-more P among kept left t rest g taken r
     (λ k. (λ h. let q = out k .0 h in (q .0, λ e. iff .0 (q .1 e)), λ h. out k .1 (h .0, λ e. iff .1 (h .1 e))))
+
+-- what is left may be cut down to what is kept: who was dropped needs no look
+pub sift-kept : (P : ℕ → Type 0) {among kept left both : ℕ} → Sifted P among kept left → ((k : ℕ) → Has both k ↔ (Has left k × Has kept k)) → Sifted P among kept both
+sift-kept P g cut = record { inside = g .inside; keeps = g .keeps; seen = λ k h n. g .seen k h (λ l. n (cut k .1 (l, h))) }

@@ -76,7 +76,8 @@ pub fn kept(set: u32, task: usize, stays: bool) -> u32
     if stays { set } else { sets::take(set, task) }
 }
 
-// The blocked tasks.
+// The blocked tasks. What is left is cut down to what is kept so that the loop's length is not known when compiled: a loop of known length is unrolled, and
+// breaks the table into pieces that are copied one by one.
 pub fn blocked(table: Table) -> u32
     ensures { λ r. ⌜ BlockedSet table r ⌝ }
 {
@@ -87,7 +88,7 @@ pub fn blocked(table: Table) -> u32
         let task = table.tasks[t];
         let state = task.state;
         set = kept(set, t, state.is_blocked());
-        left = sets::take(left, t);
+        left = sets::common(sets::take(left, t), set);
     }
     set
 }

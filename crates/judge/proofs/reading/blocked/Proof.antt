@@ -4,9 +4,10 @@ use mathlib.Core.Bool.{true}
 use Prim.Native.Nat.{_-_, _^_, _<_}
 use native.Mathlib.Omega.{arith}
 use Rattle.hall.specs.Table.{isBlocked, stateAt}
+use Rattle.sets.proofs.Members.{within-le}
 use Rattle.sets.proofs.Loops.{Sifted, sift-start}
 use Rattle.judge.proofs.States.{blocked-read, blocked-set}
-use Rattle.judge.proofs.Sets.{lowest-lt, lowest-less, sift-if}
+use Rattle.judge.proofs.Sets.{lowest-lt, lowest-less, sift-if, sift-kept}
 use Rattle.judge.proofs.reading.blocked.Statement.{statement}
 use Rattle.judge.proofs.reading.blocked.Tie as tie
 
@@ -37,17 +38,24 @@ kept-requires c κs = tt
 take-requires : tie.Need-take-requires Inv-loop μ-loop
 take-requires c κs = tt
 
+common-requires : tie.Need-common-requires Inv-loop μ-loop
+common-requires c κs = tt
+
 loop-less : tie.Need-loop-less Inv-loop μ-loop
 loop-less c =
-    let at = c .before .before .before .before .before in
-    lowest-less (at .before .loop .inv .0) (at .loop-test .taken) (c .before .before .before .before .lowest .ensures) _ (c .take .ok) (c .take .ensures)
+    let at = c .before .before .before .before .before .before in
+    let low = c .before .before .before .before .before .lowest .ensures in
+    let taken = lowest-less (at .before .loop .inv .0) (at .loop-test .taken) low _ (c .before .take .ok) (c .before .take .ensures) in
+    let cut = within-le 32 _ _ (c .common .ok) (λ k h. c .common .ensures k .0 h .0) in
+    omega arith
 
 loop-again : tie.Need-loop-again Inv-loop μ-loop
 loop-again c =
-    let at = c .before .before .before .before .before in
-    let low = c .before .before .before .before .lowest .ensures in
-    let iff = blocked-read _ _ (lowest-lt (at .before .loop .inv .0) (at .loop-test .taken) low) _ (c .before .before .is-blocked .ensures) in
-    (c .take .ok, sift-if _ (at .before .loop .inv .1) (c .take .ensures) iff (c .before .kept .ensures))
+    let at = c .before .before .before .before .before .before in
+    let low = c .before .before .before .before .before .lowest .ensures in
+    let iff = blocked-read _ _ (lowest-lt (at .before .loop .inv .0) (at .loop-test .taken) low) _ (c .before .before .before .is-blocked .ensures) in
+    let sifted = sift-if _ (at .before .loop .inv .1) (c .before .take .ensures) iff (c .before .before .kept .ensures) in
+    (c .common .ok, sift-kept _ sifted (c .common .ensures))
 
 returns : tie.Need-returns Inv-loop μ-loop
 returns c = blocked-set _ _ (rw (c .loop-test .left) at (c .before .loop .inv .1))
@@ -65,6 +73,7 @@ blocked-spec =
     is-blocked-requires
     kept-requires
     take-requires
+    common-requires
     loop-less
     loop-again
     returns)
