@@ -9,6 +9,7 @@ use Rattle.deadlock.proofs.One.{named-one, ring-in-one}
 use Rattle.judge.proofs.Named.{task-one, event-one}
 use Rattle.judge.proofs.One.{judged-one}
 use Rattle.sets.proofs.Widths.{same-members}
+use Rattle.sheet.specs.Fields.{Sheet}
 use Rattle.sheet.proofs.Theorems.{one-number}
 use Rattle.mollavisce.proofs.One.{sheet-judged-one, entered-one}
 use Rattle.demands.specs.OneAnswer.{OneAnswer}
@@ -30,6 +31,7 @@ one-answer = record {
   event-route = event-one;
   judge = judged-one;
   number = λ g a b p q. one-number a b (p ∙ sym q);
+  sheet-read = λ sheet answer answer′ table table′ p q. (ap (λ (s : Sheet). s .answer) (p ∙ sym q), ap (λ (s : Sheet). s .table) (p ∙ sym q));
   verdict-of = sheet-judged-one;
   sheet-verdict = entered-one;
 }

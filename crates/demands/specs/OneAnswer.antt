@@ -12,6 +12,7 @@ use Rattle.hall.specs.declared.table.Phase.{Phase}
 use Rattle.hall.specs.declared.table.Table.{Table}
 use Rattle.judge.specs.Routes.{TaskRoute, EventRoute}
 use Rattle.judge.specs.Verdict.{Judged}
+use Rattle.sheet.specs.Fields.{hands, sheetAt}
 use Rattle.sheet.specs.Got.{Got}
 use Rattle.sheet.specs.Number.{outcome}
 use Rattle.sheet.specs.declared.number.Number.{Number}
@@ -22,7 +23,7 @@ abbrev pub One : {A : Type 0} → (A → Type 0) → Type 0
 One {A} Promise = (a b : A) → Promise a → Promise b → a ≡ b
 
 pub record OneAnswer : Type 1 where
-  -- any promise that is an equation, `r ≡ f x`: all of `hall` but phase_at, `sets::size`, `judge::routes_agree`, `Verdict::nobody`, `sheet::read`
+  -- any promise that is an equation, `r ≡ f x`: all of `hall` but phase_at, `sets::size`, `judge::routes_agree`, `Verdict::nobody`
   pub equation : (A : Type 0) (x : A) → One (λ (r : A). r ≡ x)
   -- sets
   pub has : (set task : ℕ) → One (λ (r : Bool). (r ≡ true) ↔ Has set task)
@@ -43,6 +44,9 @@ pub record OneAnswer : Type 1 where
   pub judge : (t : Table) (route : ℕ) → One (Judged t route)
   -- sheet: plain, read, rising
   pub number : (g : Got ℕ) → One (λ (r : Number). outcome r ≡ g)
+  -- the reader, which hands back a table and lends its answer
+  pub sheet-read : (sheet : List ℕ) (answer answer′ : ℕ) (table table′ : Table) → hands answer table ≡ sheetAt sheet → hands answer′ table′ ≡ sheetAt sheet
+      → (answer ≡ answer′) × (table ≡ table′)
   -- mollavisce
   pub verdict-of : (sheet : List ℕ) (route : ℕ) → One (SheetJudged sheet route)
   pub sheet-verdict : (sheet : List ℕ) (route : ℕ) (before : List ℕ) (answer answer′ : ℕ) (after after′ : List ℕ) → Entered sheet route before after answer

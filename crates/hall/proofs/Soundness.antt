@@ -140,10 +140,10 @@ fresh-shaped = record {
 }
 
 -- each element is the default
-same : {A : Type 0} (n i : ℕ) (v : A) → getD (replicate n v) i v ≡ v
-same zero i v = refl
-same (suc n) zero v = refl
-same (suc n) (suc i) v = same n i v
+pub getD-all : {A : Type 0} (n i : ℕ) (v : A) → getD (replicate n v) i v ≡ v
+getD-all zero i v = refl
+getD-all (suc n) zero v = refl
+getD-all (suc n) (suc i) v = getD-all n i v
 
 pick : {A : Type 0} (b : Bool) (x y : A) → x ≡ y → cond b x y ≡ y
 pick true x y e = e
@@ -153,10 +153,10 @@ pick false x y e = refl
 pub fresh-reads : Reads freshTable (λ k. Free) (λ p. false) (λ k p. false) (λ k p. 0)
 unfolding freshTable stateAt openAt memberAt phaseAt
 fresh-reads = record {
-  states = λ k. pick (ltb k 32) (getD (replicate 32 freeTask) k freeTask .state) Free (ap (λ (x : Task). x .state) (same 32 k freeTask));
-  opens = λ p. ap (λ (b : Bool). ltb p 16 && b) (same 16 p false) ∙ and-false (ltb p 16);
-  members = λ k p. ap (λ (b : Bool). entry k p && b) (same 512 (k * 16 + p) false) ∙ and-false (entry k p);
-  phases = λ k p. pick (entry k p) (getD (replicate 512 phase0) (k * 16 + p) phase0 .0) 0 (ap (λ (x : Phase). x .0) (same 512 (k * 16 + p) phase0));
+  states = λ k. pick (ltb k 32) (getD (replicate 32 freeTask) k freeTask .state) Free (ap (λ (x : Task). x .state) (getD-all 32 k freeTask));
+  opens = λ p. ap (λ (b : Bool). ltb p 16 && b) (getD-all 16 p false) ∙ and-false (ltb p 16);
+  members = λ k p. ap (λ (b : Bool). entry k p && b) (getD-all 512 (k * 16 + p) false) ∙ and-false (entry k p);
+  phases = λ k p. pick (entry k p) (getD (replicate 512 phase0) (k * 16 + p) phase0 .0) 0 (ap (λ (x : Phase). x .0) (getD-all 512 (k * 16 + p) phase0));
 }
 
 -- ---- what is written

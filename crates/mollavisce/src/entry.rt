@@ -15,12 +15,11 @@ pub fn verdict_of(bytes: &[u8], route: u64) -> Verdict
     if route > 1 {
         return Verdict::nobody(NO_ROUTE);
     }
-    let held = read(bytes);
-    let refusal = held.answer;
+    let mut refusal: u32 = 0;
+    let table = read(bytes, &mut refusal);
     if refusal != 0 {
         return Verdict::nobody(refusal);
     }
-    let table = held.table;
     judge(table, route)
 }
 

@@ -7,178 +7,121 @@ use native.Mathlib.Omega.{arith}
 use lib.Dec.{eqb, ltb}
 use lib.ListN.{length, getD, set, take, replicate, length-set, length-replicate}
 use lib.Seq.{take-all, getD-set-same, getD-set-other}
-use borrow.Author.Tests.{eqb-true, eqb-false, ltb-false, lt-ltb}
-use Rattle.hall.specs.Table.{largestPhase, phase0, event, openAt, memberAt, isLive, Shaped}
-use Rattle.hall.specs.Effects.{withState}
+use borrow.Author.Tests.{eqb-true, le-leb, ltb-false}
+use Rattle.hall.specs.Table.{largestPhase, event, openAt, memberAt, phaseAt, isLive, Shaped}
+use Rattle.hall.specs.Effects.{withState, withEntry}
 use Rattle.hall.specs.Sound.{Sound}
 use Rattle.hall.specs.declared.table.Event.{Event}
-use Rattle.hall.specs.declared.table.Phase.{Phase}
 use Rattle.hall.specs.declared.table.State.{State}
-use Rattle.hall.specs.declared.table.State.the-variants.{Running, Blocked}
 use Rattle.hall.specs.declared.table.Table.{Table}
-use Rattle.sheet.specs.declared.reader.Row.{Row}
+use Rattle.hall.proofs.Places.{open-in, open-below}
+use Rattle.hall.proofs.Written.{state-reads, entry-reads}
+use Rattle.hall.proofs.Soundness.{awaitSound, getD-all}
 use Rattle.sheet.specs.declared.reader.Entry.{Entry}
 use Rattle.sheet.specs.declared.reader.Head.{Head}
 use Rattle.sheet.specs.Number.{numberBytes}
-use Rattle.sheet.specs.Fields.{Rising, rising, each, openStep, opensAt, countAt, listsAt, headAt, phaseOn, eventAt, blockedAt, stateOn, noRow, withMember, memberStep, rowAt, entryOf, entryOn, entryAt, entered, taskStep, withRow, tasksAt, entriesAt, tableAt}
-use Rattle.sheet.specs.Written.{count, listed, stateBytes, memberBytes, taskBytes, liveAt, sheetOf}
+use Rattle.sheet.specs.Fields.{Rising, rising, each, openStep, opensAt, countAt, listsAt, headAt, phaseOn, eventAt, blockedAt, stateOn, entryOf, membersOn, entryOn, entryAt, memberStep, membersAt, taskStep, tasksAt, entriesAt, tableAt}
+use Rattle.sheet.specs.Written.{listed, stateBytes, memberBytes, taskBytes, liveAt, sheetOf}
 use Rattle.sheet.proofs.Same.{Ok, fine, none, same-onward, same-times, same-if}
 use Rattle.sheet.proofs.Numbers.{Bytes, plain-ok, number-ok, rising-ok}
 use Rattle.sheet.proofs.Gather.{Part, part-start, part-step, part-done, listed-same}
-use Rattle.sheet.proofs.Tables.{true-false, getD-all, rowMember, rowPhase, RowSound, Fit, state-here, state-else, member-here, member-else, phase-here, phase-else, entered-shaped, entered-sound, none-live, none-sound, none-shaped}
-
-abbrev rowBytes : Row → ℕ → List ℕ
-rowBytes r p = numberBytes p ++ numberBytes (rowPhase r p)
-
-module _ (opened : List Bool) (r : Row) (e : Event) (h : RowSound opened r) (low : e .phaser .0 < 16) where
-  row-here : rowMember (withMember e r) (e .phaser .0) ≡ true
-  row-here = getD-set-same (r .members) (e .phaser .0) true false (omega (arith, h .long-members))
-
-  row-else : (i : ℕ) → ¬ (i ≡ e .phaser .0) → rowMember (withMember e r) i ≡ rowMember r i
-  row-else i d = getD-set-other (r .members) (e .phaser .0) i true false d
-
-  kept-here : rowPhase (withMember e r) (e .phaser .0) ≡ e .phase .0
-  kept-here = ap (λ (y : Phase). y .0) (getD-set-same (r .phases) (e .phaser .0) (e .phase) phase0 (omega (arith, h .long-phases)))
-
-  kept-else : (i : ℕ) → ¬ (i ≡ e .phaser .0) → rowPhase (withMember e r) i ≡ rowPhase r i
-  kept-else i d = ap (λ (y : Phase). y .0) (getD-set-other (r .phases) (e .phaser .0) i (e .phase) phase0 d)
-
-  row-sound : getD opened (e .phaser .0) false ≡ true → e .phase .0 ≤ largestPhase → RowSound opened (withMember e r)
-  row-sound o l = record {
-    long-phases = simp length-set (h .long-phases);
-    long-members = simp length-set (h .long-members);
-    open-member = λ i m. open-member i m (eqb i (e .phaser .0)) refl;
-    kept = λ i. kept i (eqb i (e .phaser .0)) refl;
-    no-member = λ i m. no-member i m (eqb i (e .phaser .0)) refl;
-  }
-    where
-      open-member : (i : ℕ) → rowMember (withMember e r) i ≡ true → (b : Bool) → eqb i (e .phaser .0) ≡ b → getD opened i false ≡ true
-      open-member i m true z = rw (eqb-true i (e .phaser .0) z) o
-      open-member i m false z = h .open-member i (sym (row-else i (eqb-false _ _ z)) ∙ m)
-
-      kept : (i : ℕ) (b : Bool) → eqb i (e .phaser .0) ≡ b → rowPhase (withMember e r) i ≤ largestPhase
-      kept i true z = rw (eqb-true i (e .phaser .0) z, kept-here) l
-      kept i false z = rw (kept-else i (eqb-false _ _ z)) (h .kept i)
-
-      no-member : (i : ℕ) → rowMember (withMember e r) i ≡ false → (b : Bool) → eqb i (e .phaser .0) ≡ b → rowPhase (withMember e r) i ≡ 0
-      no-member i m true z = true-false (sym row-here ∙ ap (rowMember (withMember e r)) (sym (eqb-true _ _ z)) ∙ m)
-      no-member i m false z = kept-else i (eqb-false _ _ z) ∙ h .no-member i (sym (row-else i (eqb-false _ _ z)) ∙ m)
-
-blank-row : (opened : List Bool) → RowSound opened noRow
-blank-row opened = record {
-  long-phases = length-replicate 16 phase0;
-  long-members = length-replicate 16 false;
-  open-member = λ p m. true-false (sym m ∙ getD-all 16 p false);
-  kept = λ p. rw (getD-all 16 p phase0) (omega arith);
-  no-member = λ p m. ap (λ (y : Phase). y .0) (getD-all 16 p phase0);
-}
+use Rattle.sheet.proofs.Tables.{put-at-here, put-at-else, absent, Grown, grown-start, grown-more, none-reads, none-sound, none-shaped}
 
 module _ (s : List ℕ) (eight : Bytes s) where
-  -- ---- a task
-  record EventRead (opened : List Bool) (floor at : ℕ) (e : Event) (next : ℕ) : Type 0 where
-    pub low : e .phaser .0 < 16
+  -- ---- a task's entry, where the phasers of t are open
+  record EventRead (t : Table) (floor at : ℕ) (e : Event) (next : ℕ) : Type 0 where
     pub least : floor ≤ e .phaser .0
-    pub opens : getD opened (e .phaser .0) false ≡ true
+    pub opens : openAt t (e .phaser .0) ≡ true
     pub most : e .phase .0 ≤ largestPhase
     pub bytes : take next s ≡ take at s ++ (numberBytes (e .phaser .0) ++ numberBytes (e .phase .0))
 
-  event-ok : (opened : List Bool) (floor at : ℕ) → Ok (EventRead opened floor at) (eventAt s opened floor at)
+  event-ok : (t : Table) (floor at : ℕ) → Ok (EventRead t floor at) (eventAt s (t .opened) floor at)
   unfolding eventAt phaseOn
-  event-ok opened floor at =
+  event-ok t floor at =
       same-onward (rising-ok s eight 15 floor at) (λ p second e.
-      same-if _ (getD opened p false)
+      same-if _ (getD (t .opened) p false)
       (λ o. same-onward (number-ok s eight largestPhase second) (λ n next f. fine {a = event p n} (record {
-        low = omega (arith, e .most);
         least = e .least;
-        opens = o;
+        opens = open-in t p (omega (arith, e .most)) ∙ o;
         most = f .most;
         bytes = f .bytes ∙ rw (e .bytes, append-assoc);
       })))
       (λ o. none tt))
 
-  record StateRead (opened : List Bool) (at : ℕ) (x : State) (next : ℕ) : Type 0 where
-    pub fits : Fit opened x
+  record StateRead (t : Table) (at : ℕ) (x : State) (next : ℕ) : Type 0 where
+    pub alive : isLive x ≡ true
+    pub awaits : awaitSound (openAt t) x ≡ true
     pub bytes : take next s ≡ take at s ++ stateBytes x
 
-  fit-running : (opened : List Bool) → Fit opened Running
-  fit-running opened = record { alive = refl; low = λ e h. no e h; open-awaited = λ e h. no e h; awaited = λ e h. no e h }
-    where
-      no : {A : Type 0} (e : Event) → _≡_ {A = State} Running (Blocked e) → A
-      no e h = absurd (let w : _≡_ {A = ℕ} 0 1 = cc in omega arith)
-
-  fit-blocked : (opened : List Bool) (at : ℕ) (e : Event) (next : ℕ) → EventRead opened 0 at e next → Fit opened (Blocked e)
-  fit-blocked opened at e next r = record {
-    alive = refl;
-    low = λ f h. rw (← same f h) (r .low);
-    open-awaited = λ f h. rw (← same f h) (r .opens);
-    awaited = λ f h. rw (← same f h) (r .most);
-  }
-    where
-      same : (f : Event) → _≡_ {A = State} (Blocked e) (Blocked f) → e ≡ f
-      same f h = cc
-
-  state-ok : (opened : List Bool) (at : ℕ) → Ok (StateRead opened at) (stateOn s opened at)
+  state-ok : (t : Table) (at : ℕ) → Ok (StateRead t at) (stateOn s (t .opened) at)
   unfolding stateOn blockedAt
-  state-ok opened at =
+  state-ok t at =
       same-onward (plain-ok s eight at) (λ kind second f.
-      same-if _ (eqb kind 0) (λ z. fine (record { fits = fit-running opened; bytes = f .bytes ∙ rw (eqb-true kind 0 z) })) (λ z.
+      same-if _ (eqb kind 0) (λ z. fine (record { alive = refl; awaits = refl; bytes = f .bytes ∙ rw (eqb-true kind 0 z) })) (λ z.
       same-if _ (eqb kind 1)
-      (λ y. same-onward (event-ok opened 0 second) (λ e next r. fine (record {
-        fits = fit-blocked opened second e next r;
+      (λ y. same-onward (event-ok t 0 second) (λ e next r. fine (record {
+        alive = refl;
+        awaits = simp (r .opens, le-leb (e .phase .0) largestPhase (r .most));
         bytes = r .bytes ∙ rw (f .bytes, eqb-true kind 1 y, append-assoc);
       })))
       (λ y. none tt)))
 
-  -- memberships, n in all, of which `left` are still to be read
-  record Joining (opened : List Bool) (w : List ℕ) (n left : ℕ) (r : Rising Row) (at : ℕ) : Type 0 where
-    pub sound : RowSound opened (r .sofar)
-    pub part : Part s w n (rowMember (r .sofar)) (rowBytes (r .sofar)) 16 left (r .floor) at
-
-  member-ok : (opened : List Bool) (w : List ℕ) (n left : ℕ) (r : Rising Row) (at : ℕ) → Joining opened w n (suc left) r at →
-      Ok (Joining opened w n left) (memberStep s opened r at)
-  unfolding memberStep
-  member-ok opened w n left r at j =
-      same-onward (event-ok opened (r .floor) at) (λ e next v. fine (record {
-        sound = row-sound opened (r .sofar) e (j .sound) (v .low) (v .opens) (v .most);
-        part = part-step s w n _ _ _ _ 16 left (r .floor) at next (e .phaser .0) (j .part) (v .least) (v .low)
-            (row-else opened (r .sofar) e (j .sound) (v .low))
-            (row-here opened (r .sofar) e (j .sound) (v .low))
-            (λ i d hi. rw (kept-else opened (r .sofar) e (j .sound) (v .low) i d))
-            (v .bytes ∙ rw (kept-here opened (r .sofar) e (j .sound) (v .low)));
-      }))
-
-  record RowRead (opened : List Bool) (at : ℕ) (r : Row) (next : ℕ) : Type 0 where
-    pub sound : RowSound opened r
-    pub bytes : take next s ≡ take at s ++ listed (rowMember r) (rowBytes r) 16
-
-  row-ok : (opened : List Bool) (at : ℕ) → Ok (RowRead opened at) (rowAt s opened at)
-  unfolding rowAt each
-  row-ok opened at =
-      same-onward (number-ok s eight 16 at) (λ n first e.
-      same-onward
-      (same-times (Joining opened (take first s) n) (memberStep s opened) (memberStep s opened) (member-ok opened (take first s) n) n (rising 0 noRow) first
-      (record { sound = blank-row opened; part = part-start s n _ _ 16 first (λ i. getD-all 16 i false) }))
-      (λ r next j. fine (record { sound = j .sound; bytes = part-done s (take at s) n _ _ 16 (r .floor) next (rw (e .bytes) at (j .part)) })))
-
-  record EntryRead (opened : List Bool) (floor at : ℕ) (e : Entry) (next : ℕ) : Type 0 where
+  record EntryRead (t : Table) (floor at : ℕ) (e : Entry) (next : ℕ) : Type 0 where
     pub low : e .number .0 < 32
     pub least : floor ≤ e .number .0
-    pub fits : Fit opened (e .state)
-    pub sound : RowSound opened (e .row)
-    pub bytes : take next s ≡ take at s ++ (numberBytes (e .number .0) ++ (stateBytes (e .state) ++ listed (rowMember (e .row)) (rowBytes (e .row)) 16))
+    pub alive : isLive (e .state) ≡ true
+    pub awaits : awaitSound (openAt t) (e .state) ≡ true
+    pub bytes : take next s ≡ (take at s ++ (numberBytes (e .number .0) ++ stateBytes (e .state))) ++ numberBytes (e .count)
 
-  entry-ok : (opened : List Bool) (floor at : ℕ) → Ok (EntryRead opened floor at) (entryAt s opened floor at)
-  unfolding entryAt entryOn
-  entry-ok opened floor at =
+  entry-ok : (t : Table) (floor at : ℕ) → Ok (EntryRead t floor at) (entryAt s (t .opened) floor at)
+  unfolding entryAt entryOn membersOn
+  entry-ok t floor at =
       same-onward (rising-ok s eight 31 floor at) (λ k second e.
-      same-onward (state-ok opened second) (λ x third f.
-      same-onward (row-ok opened third) (λ r next g. fine {a = entryOf k x r} (record {
+      same-onward (state-ok t second) (λ x third f.
+      same-onward (number-ok s eight 16 third) (λ n next g. fine {a = entryOf k x n} (record {
         low = omega (arith, e .most);
         least = e .least;
-        fits = f .fits;
-        sound = g .sound;
+        alive = f .alive;
+        awaits = f .awaits;
         bytes = g .bytes ∙ rw (f .bytes, e .bytes) (simp append-assoc);
       }))))
+
+  -- ---- the memberships of task k, n in all, of which `left` are still to be read; t is the table before the task
+  module _ (k : ℕ) (x : State) (t : Table) (low : k < 32) (alive : isLive x ≡ true) where
+    record Joining (w : List ℕ) (n left : ℕ) (r : Rising Table) (at : ℕ) : Type 0 where
+      pub grown : Grown k x t (r .sofar)
+      pub part : Part s w n (memberAt (r .sofar) k) (memberBytes (r .sofar) k) 16 left (r .floor) at
+
+    member-ok : (w : List ℕ) (n left : ℕ) (r : Rising Table) (at : ℕ) → Joining w n (suc left) r at → Ok (Joining w n left) (memberStep s (t .opened) k r at)
+    unfolding memberStep
+    member-ok w n left r at j =
+        same-onward (event-ok t (r .floor) at) (λ e next v.
+        let p = e .phaser .0 in
+        let m = e .phase .0 in
+        let u = r .sofar in
+        let l = open-below t p (v .opens) in
+        let a = entry-reads u (j .grown .shaped) k p true m low l in
+        fine {a = rising (p + 1) (withEntry u k p true m)} (record {
+          grown = grown-more k x t low u (j .grown) alive p m l (v .opens) (v .most);
+          part = part-step s w n _ _ _ _ 16 left (r .floor) at next p (j .part) (v .least) l
+              (λ i d. a .members k i ∙ put-at-else (memberAt u) k p true i d)
+              (a .members k p ∙ put-at-here (memberAt u) k p true)
+              (λ i d hi. rw (a .phases k i ∙ put-at-else (phaseAt u) k p m i d))
+              (v .bytes ∙ rw (a .phases k p ∙ put-at-here (phaseAt u) k p m));
+        }))
+
+    record MembersRead (w : List ℕ) (u : Table) (next : ℕ) : Type 0 where
+      pub grown : Grown k x t u
+      pub bytes : take next s ≡ w ++ listed (memberAt u k) (memberBytes u k) 16
+
+    members-ok : (w : List ℕ) (n at : ℕ) → Grown k x t (withState t k x) → ((p : ℕ) → memberAt (withState t k x) k p ≡ false) → take at s ≡ w ++ numberBytes n →
+        Ok (MembersRead w) (each (memberStep s (t .opened) k) n (withState t k x) at)
+    unfolding each
+    members-ok w n at g e b =
+        same-onward
+        (same-times (Joining (take at s) n) (memberStep s (t .opened) k) (memberStep s (t .opened) k) (member-ok (take at s) n) n (rising 0 (withState t k x)) at
+        (record { grown = g; part = part-start s n _ _ 16 at e }))
+        (λ r next j. fine (record { grown = j .grown; bytes = part-done s w n _ _ 16 (r .floor) next (rw b at (j .part)) }))
 
   -- ---- the tasks, n in all, of which `left` are still to be read
   record Entering (opened : List Bool) (w : List ℕ) (n left : ℕ) (r : Rising Table) (at : ℕ) : Type 0 where
@@ -187,40 +130,29 @@ module _ (s : List ℕ) (eight : Bytes s) where
     pub opens : r .sofar .opened ≡ opened
     pub part : Part s w n (liveAt (r .sofar)) (taskBytes (r .sofar)) 32 left (r .floor) at
 
-  module _ (k : ℕ) (x : State) (r : Row) (t : Table) (hk : k < 32) (h : Shaped t) where
-    bytes-here : taskBytes (entered (entryOf k x r) t) k ≡ numberBytes k ++ (stateBytes x ++ listed (rowMember r) (rowBytes r) 16)
-    bytes-here =
-        rw (
-          state-here k x r t hk h,
-          listed-same (memberAt (entered (entryOf k x r) t) k) (rowMember r) (memberBytes (entered (entryOf k x r) t) k) (rowBytes r) 16
-              (λ p l. member-here k x r t hk h p l) (λ p l m. rw (phase-here k x r t hk h p l)),
-        )
-
-    bytes-else : (i : ℕ) → ¬ (i ≡ k) → taskBytes (entered (entryOf k x r) t) i ≡ taskBytes t i
-    bytes-else i d =
-        rw (
-          state-else k x r t hk h i d,
-          listed-same (memberAt (entered (entryOf k x r) t) i) (memberAt t i) (memberBytes (entered (entryOf k x r) t) i) (memberBytes t i) 16
-              (λ p l. member-else k x r t hk h i p d) (λ p l m. rw (phase-else k x r t hk h i p d)),
-        )
-
   task-ok : (opened : List Bool) (w : List ℕ) (n left : ℕ) (r : Rising Table) (at : ℕ) → Entering opened w n (suc left) r at →
       Ok (Entering opened w n left) (taskStep s opened r at)
-  unfolding taskStep withRow withState
+  unfolding taskStep membersAt
   task-ok opened w n left r at j =
-      same-onward (entry-ok opened (r .floor) at) (λ e next v.
-      let k = e .number .0 in
       let t = r .sofar in
-      fine {a = rising (k + 1) (entered e t)} (record {
-        sound = entered-sound k (e .state) (e .row) t (v .low) (j .shaped) (j .sound) (rw (j .opens) (v .sound)) (rw (j .opens) (v .fits));
-        shaped = entered-shaped k (e .state) (e .row) t (v .low) (j .shaped);
-        opens = j .opens;
+      rw (← j .opens)
+      (same-onward (entry-ok t (r .floor) at) (λ e first v.
+      let k = e .number .0 in
+      let x = e .state in
+      let none : (p : ℕ) → memberAt (withState t k x) k p ≡ false = λ p. state-reads t (j .shaped) k x (v .low) .members k p ∙ absent t (j .sound) k (j .part .none k (v .least) (v .low)) p in
+      same-onward
+      (members-ok k x t (v .low) (v .alive) (take at s ++ (numberBytes k ++ stateBytes x)) (e .count) first
+      (grown-start k x t (v .low) (j .sound) (j .shaped) (v .alive) (v .awaits)) none (v .bytes))
+      (λ u next m. fine {a = rising (k + 1) u} (record {
+        sound = m .grown .sound;
+        shaped = m .grown .shaped;
+        opens = m .grown .opens;
         part = part-step s w n _ _ _ _ 32 left (r .floor) at next k (j .part) (v .least) (v .low)
-            (λ i d. ap isLive (state-else k (e .state) (e .row) t (v .low) (j .shaped) i d))
-            (ap isLive (state-here k (e .state) (e .row) t (v .low) (j .shaped)) ∙ v .fits .alive)
-            (λ i d hi. bytes-else k (e .state) (e .row) t (v .low) (j .shaped) i d)
-            (v .bytes ∙ rw (bytes-here k (e .state) (e .row) t (v .low) (j .shaped)));
-      }))
+            (λ i d. ap isLive (m .grown .states i d))
+            (ap isLive (m .grown .state) ∙ v .alive)
+            (λ i d hi. m .grown .others i d)
+            (m .bytes ∙ rw (m .grown .state) (simp append-assoc));
+      }))))
 
   record TasksRead (opened : List Bool) (w : List ℕ) (t : Table) (at : ℕ) : Type 0 where
     pub sound : Sound t
@@ -233,7 +165,7 @@ module _ (s : List ℕ) (eight : Bytes s) where
   tasks-ok h w first l b =
       same-onward
       (same-times (Entering (h .opened) (take first s) (h .count)) (taskStep s (h .opened)) (taskStep s (h .opened)) (task-ok (h .opened) (take first s) (h .count)) (h .count) _ first
-      (record { sound = none-sound (h .opened); shaped = none-shaped (h .opened) l; opens = refl; part = part-start s (h .count) _ _ 32 first (λ i. ap isLive (none-live (h .opened) i)) }))
+      (record { sound = none-sound (h .opened); shaped = none-shaped (h .opened) l; opens = refl; part = part-start s (h .count) _ _ 32 first (λ i. ap isLive (none-reads (h .opened) .states i)) }))
       (λ r at j. fine (record { sound = j .sound; shaped = j .shaped; opens = j .opens; bytes = part-done s w (h .count) _ _ 32 (r .floor) at (rw b at (j .part)) }))
 
   -- ---- the head: open phasers, n in all, of which `left` are still to be read
@@ -291,8 +223,7 @@ module _ (s : List ℕ) (eight : Bytes s) where
     pub sheet : s ≡ sheetOf t
 
   opens-listed : (t : Table) → listed (λ p. getD (t .opened) p false) numberBytes 16 ≡ listed (openAt t) numberBytes 16
-  unfolding openAt
-  opens-listed t = listed-same _ _ numberBytes numberBytes 16 (λ p l. rw (lt-ltb p 16 l)) (λ p l m. refl)
+  opens-listed t = listed-same _ _ numberBytes numberBytes 16 (λ p l. sym (open-in t p l)) (λ p l m. refl)
 
   pub accepted : Ok Accepted (tableAt s)
   unfolding tableAt entriesAt sheetOf

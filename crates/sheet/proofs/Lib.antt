@@ -12,3 +12,4 @@ pub mod Settled
 pub mod Bytes
 pub mod Theorems
 pub mod Examples
+mod Wiped

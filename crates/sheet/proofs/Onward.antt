@@ -8,7 +8,7 @@ use Rattle.sheet.specs.declared.number.Number.the-variants.{Value, Refus
 use Rattle.sheet.specs.declared.reader.Place.{Place}
 use Rattle.sheet.specs.declared.reader.Place.the-variants.{At, Refused}
 use Rattle.sheet.specs.Number.{outcome}
-use Rattle.sheet.specs.Places.{placed}
+use Rattle.sheet.specs.Places.{placed, nextOf, remainingOf}
 use Rattle.sheet.specs.Fields.{Rising, rising}
 
 -- what was read in the end was read from something
@@ -53,3 +53,36 @@ module _ {A : Type 0} (step : Rising A → ℕ → Got (Rising A)) (floor : ℕ)
   pub going-end : (left : ℕ) → left ≡ 0 → value a at ≡ going step left floor a at
   unfolding going
   going-end left e = rw e
+
+-- ---- the same from a place on, which may be a refusal
+unfoldable pub gone : {A : Type 0} → (Rising A → ℕ → Got (Rising A)) → Place → ℕ → ℕ → A → Got A
+gone step place left floor a = onward (placed place a) (going step left floor)
+
+module _ {A : Type 0} (step : Rising A → ℕ → Got (Rising A)) where
+  -- a refusal leaves nothing to read
+  pub gone-start : (place : Place) (left floor : ℕ) (a : A) → gone step place (remainingOf place left) floor a ≡ gone step place left floor a
+  unfolding gone
+  gone-start (At next) left floor a = refl
+  gone-start (Refused n) left floor a = refl
+
+  -- a turn, after which the reading goes on from `up`
+  pub gone-turn : (before after : Place) (left floor up up′ : ℕ) (a b : A) → 0 < left → left ≡ remainingOf before left →
+      step (rising floor a) (nextOf before) ≡ placed after (rising up b) → ((next : ℕ) → after ≡ At next → up′ ≡ up) →
+      gone step after (remainingOf after (left - 1)) up′ b ≡ gone step before left floor a
+  unfolding gone
+  gone-turn (At at) (At next) left floor up up′ a b h e g same = rw (same next refl) (going-turn step floor a at left h g)
+  gone-turn (At at) (Refused n) left floor up up′ a b h e g same = going-refused step floor a at left h g
+  gone-turn (Refused n) after left floor up up′ a b h e g same = absurd (omega (arith, h, e))
+
+  pub gone-end : (place : Place) (left floor : ℕ) (a : A) → left ≡ 0 → placed place a ≡ gone step place left floor a
+  unfolding gone
+  gone-end (At at) left floor a e = going-end step floor a at left e
+  gone-end (Refused n) left floor a e = refl
+
+pub remaining-settled : (place : Place) (left n : ℕ) → left ≡ remainingOf place n → left ≡ remainingOf place left
+remaining-settled (At next) left n e = refl
+remaining-settled (Refused m) left n e = e
+
+pub remaining-less : (place : Place) (left n : ℕ) → 0 < left → n ≡ remainingOf place (left - 1) → n < left
+remaining-less (At next) left n h e = omega (arith, h, e)
+remaining-less (Refused m) left n h e = omega (arith, h, e)

@@ -9,11 +9,13 @@ use lib.ListN.{length, getD, take, replicate, length-take}
 use lib.Seq.{getD-take}
 use borrow.Author.Tests.{eqb-true, le-leb, lt-leb, leb-true, leb-false, ltb-false, le-ltb, lt-ltb}
 use Rattle.hall.specs.Table.{largestPhase}
+use Rattle.hall.specs.Effects.{withState}
 use Rattle.hall.specs.declared.table.Table.{Table}
+use Rattle.sheet.specs.declared.reader.Entry.{Entry}
 use Rattle.sheet.specs.declared.reader.Head.{Head}
 use Rattle.sheet.specs.Got.{value}
 use Rattle.sheet.specs.Number.{further, groupsAt, plainAt, numberAt, risingAt}
-use Rattle.sheet.specs.Fields.{rising, each, openStep, opensAt, countAt, listsAt, headAt, phaseOn, eventAt, blockedAt, stateOn, noRow, memberStep, rowAt, entryOn, entryAt, taskStep, noTasks, tasksAt, entriesAt, tableAt}
+use Rattle.sheet.specs.Fields.{rising, each, openStep, opensAt, countAt, listsAt, headAt, phaseOn, eventAt, blockedAt, stateOn, entryOf, membersOn, entryOn, entryAt, memberStep, membersAt, taskStep, noTasks, tasksAt, entriesAt, tableAt}
 use Rattle.sheet.proofs.Same.{Same, fine, none, same-onward, same-times, same-if, same-equal, same-holds}
 use Rattle.sheet.proofs.Numbers.{Bytes, anyNumber, Read, plain-ok, number-ok, rising-ok, one-byte}
 
@@ -81,31 +83,34 @@ module _ (s s' : List ℕ) (eight : Bytes s) (n : ℕ) (same : (i : ℕ) → i <
       (λ y. let w = one e (omega (arith, eqb-true kind 1 y)) in same-onward (event c opened 0 next (omega arith)) (λ v at l. fine l))
       (λ y. none tt)))
 
-  row : (c : ℕ) (opened : List Bool) (at : ℕ) → at + (1 + 16 * longestEvent + c) ≤ n → Same (Left c) (rowAt s opened at) (rowAt s' opened at)
-  unfolding rowAt each memberStep
-  row c opened at h =
-      same-onward (number 16 at (omega arith)) (λ m first e.
-      let z = one e (omega (arith, e .most)) in
-      same-onward
-      (same-times (λ j. Left (j * longestEvent + c)) (memberStep s opened) (memberStep s' opened)
-      (λ j r mid l. same-onward (event (j * longestEvent + c) opened (r .floor) mid (omega arith)) (λ v next f. fine f))
-      m (rising 0 noRow) first (omega (arith, e .most)))
-      (λ r next l. fine (omega arith)))
-
-  entry : (c : ℕ) (opened : List Bool) (floor at : ℕ) → at + (longestEntry + c) ≤ n → Same (Left c) (entryAt s opened floor at) (entryAt s' opened floor at)
-  unfolding entryAt entryOn
+  entry : (c : ℕ) (opened : List Bool) (floor at : ℕ) → at + (longestEntry + c) ≤ n →
+      Same (λ e next. next + (e .count * longestEvent + c) ≤ n) (entryAt s opened floor at) (entryAt s' opened floor at)
+  unfolding entryAt entryOn membersOn
   entry c opened floor at h =
       same-onward (rises 31 floor at (omega arith)) (λ k second e.
       let z = one e (omega (arith, e .most)) in
       same-onward (state (1 + 16 * longestEvent + c) opened second (omega arith)) (λ x third f.
-      same-onward (row c opened third f) (λ r next l. fine l)))
+      same-onward (number 16 third (omega arith)) (λ m next g. let y = one g (omega (arith, g .most)) in fine {a = entryOf k x m} (omega (arith, g .most)))))
+
+  members : (c : ℕ) (opened : List Bool) (t : Table) (e : Entry) (at : ℕ) → at + (e .count * longestEvent + c) ≤ n →
+      Same (Left c) (membersAt s opened t e at) (membersAt s' opened t e at)
+  unfolding membersAt each memberStep
+  members c opened t e at h =
+      let k = e .number .0 in
+      same-onward {P = Left c}
+      (same-onward
+      (same-times (λ j. Left (j * longestEvent + c)) (memberStep s opened k) (memberStep s' opened k)
+      (λ j r mid l. same-onward (event (j * longestEvent + c) opened (r .floor) mid (omega arith)) (λ v next f. fine f))
+      (e .count) (rising 0 (withState t k (e .state))) at h)
+      (λ r next l. fine (omega arith)))
+      (λ u next l. fine l)
 
   tasks : (c : ℕ) (h : Head) (at : ℕ) → at + (h .count * longestEntry + c) ≤ n → Same (Left c) (tasksAt s h at) (tasksAt s' h at)
   unfolding tasksAt each taskStep
   tasks c h at l =
       same-onward
       (same-times (λ j. Left (j * longestEntry + c)) (taskStep s (h .opened)) (taskStep s' (h .opened))
-      (λ j r mid l. same-onward (entry (j * longestEntry + c) (h .opened) (r .floor) mid (omega arith)) (λ e next f. fine f))
+      (λ j r mid l. same-onward (entry (j * longestEntry + c) (h .opened) (r .floor) mid (omega arith)) (members (j * longestEntry + c) (h .opened) (r .sofar)))
       (h .count) (rising 0 (noTasks (h .opened))) at l)
       (λ r next l. fine (omega arith))
 

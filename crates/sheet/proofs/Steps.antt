@@ -1,22 +1,24 @@
--- One step of each loop of the reader, and the places of a row in the table.
-use Prim.Native.Nat.{ℕ, _+_, _-_, _*_, _<_}
-use mathlib.Core.Path.{_≡_, refl}
-use mathlib.Core.Bool.{Bool, true, false}
+-- One step of each loop of the reader.
+use Prim.Native.Nat.{ℕ, _+_}
+use mathlib.Core.Path.{_≡_, refl, sym, ap, _∙_}
+use mathlib.Core.Bool.{Bool, true, false, cond}
 use mathlib.Core.List.{List}
-use native.Mathlib.Numerals.{add-one}
-use lib.ListN.{getD, set}
-use Rattle.hall.specs.Table.{phase0}
+use native.Mathlib.Omega.{arith}
+use lib.Dec.{ltb}
+use lib.ListN.{set, length}
+use Rattle.hall.specs.Effects.{withState, withEntry}
 use Rattle.hall.specs.declared.table.Event.{Event}
 use Rattle.hall.specs.declared.table.Table.{Table}
-use Rattle.sheet.specs.declared.reader.Row.{Row}
 use Rattle.sheet.specs.declared.reader.Entry.{Entry}
+use Rattle.sheet.specs.declared.reader.Head.{Head}
 use Rattle.sheet.specs.declared.reader.Place.{Place}
 use Rattle.sheet.specs.declared.reader.Place.the-variants.{At, Refused}
-use Rattle.sheet.specs.Got.{value, refused, onward}
-use Rattle.sheet.specs.Places.{placed}
+use Rattle.sheet.specs.Answers.{bytesAfter}
+use Rattle.sheet.specs.Got.{Got, value, refused, onward}
+use Rattle.sheet.specs.Places.{placed, remainingOf, endOf}
 use Rattle.sheet.specs.Number.{risingAt}
-use Rattle.sheet.specs.Fields.{Rising, rising, openStep, eventAt, memberStep, withMember, entryAt, entered, taskStep, laid, withRow}
-use Rattle.sheet.proofs.Onward.{going, going-turn}
+use Rattle.sheet.specs.Fields.{Rising, rising, each, openStep, eventAt, entryAt, memberStep, membersAt, taskStep, noTasks, tasksAt, ended, entriesAt}
+use Rattle.sheet.proofs.Onward.{going, gone, gone-start, gone-end}
 
 module _ (s : List ℕ) (r : Rising (List Bool)) (at : ℕ) where
   pub open-read : {p next : ℕ} → risingAt s 15 (r .floor) at ≡ value p next → openStep s r at ≡ value (rising (p + 1) (set (r .sofar) p true)) next
@@ -27,47 +29,54 @@ module _ (s : List ℕ) (r : Rising (List Bool)) (at : ℕ) where
   unfolding openStep
   open-refused e = rw e
 
-module _ (s : List ℕ) (opened : List Bool) (r : Rising Row) (at : ℕ) where
-  pub member-read : {e : Event} {next : ℕ} → eventAt s opened (r .floor) at ≡ value e next →
-      memberStep s opened r at ≡ value (rising (e .phaser .0 + 1) (withMember e (r .sofar))) next
-  unfolding memberStep
-  member-read e = rw e
-
-  pub member-refused : {n : ℕ} → eventAt s opened (r .floor) at ≡ refused n → memberStep s opened r at ≡ refused n
-  unfolding memberStep
-  member-refused e = rw e
-
-module _ (s : List ℕ) (opened : List Bool) (r : Rising Table) (at : ℕ) where
-  pub task-read : {e : Entry} {next : ℕ} → entryAt s opened (r .floor) at ≡ value e next →
-      taskStep s opened r at ≡ value (rising (e .number .0 + 1) (entered e (r .sofar))) next
-  unfolding taskStep
-  task-read e = rw e
-
-  -- a turn of the loop over tasks
-  pub task-turn : (left : ℕ) (e : Entry) {next : ℕ} (t : Table) → 0 < left → entryAt s opened (r .floor) at ≡ value e next → t ≡ entered e (r .sofar) →
-      going (taskStep s opened) (left - 1) (e .number .0 + 1) t next ≡ going (taskStep s opened) left (r .floor) (r .sofar) at
-  task-turn left e t h g z = rw z (going-turn (taskStep s opened) (r .floor) (r .sofar) at left h (task-read g))
-
-  pub task-refused : {n : ℕ} → entryAt s opened (r .floor) at ≡ refused n → taskStep s opened r at ≡ refused n
-  unfolding taskStep
-  task-refused e = rw e
-
 -- what is made of a part that was read, or its refusal
 pub made : {A B : Type 0} (place : Place) (a : A) (f : A → B) → placed place (f a) ≡ onward (placed place a) (λ x next. value (f x) next)
 made (At next) a f = refl
 made (Refused n) a f = refl
 
--- ---- one place more of a row
-pub row-none : (k : ℕ) (r : Row) (t : Table) → t ≡ withRow 0 k r t
-unfolding withRow laid
-row-none k r t = refl
+-- ---- the steps of the loops over tasks and memberships, from what their parts were read to
+module _ (s : List ℕ) (opened : List Bool) (floor at : ℕ) (t : Table) (place : Place) where
+  pub member-made : (k : ℕ) (e : Event) → placed place e ≡ eventAt s opened floor at →
+      memberStep s opened k (rising floor t) at ≡ placed place (rising (e .phaser .0 + 1) (withEntry t k (e .phaser .0) true (e .phase .0)))
+  unfolding memberStep
+  member-made k e h = rw (← h) (sym (made place e (λ (e : Event). rising (e .phaser .0 + 1) (withEntry t k (e .phaser .0) true (e .phase .0)))))
 
-pub row-more : (n k : ℕ) (r : Row) (t u : Table) → u ≡ withRow n k r t →
-    record {
-      tasks = u .tasks;
-      opened = u .opened;
-      phases = set (u .phases) (k * 16 + n) (getD (r .phases) n phase0);
-      members = set (u .members) (k * 16 + n) (getD (r .members) n false);
-    } ≡ withRow (n + 1) k r t
-unfolding withRow laid
-row-more n k r t u e = rw (e, add-one)
+  -- `end` and `u` are where the memberships end and the table with them
+  pub task-made : (e : Entry) (end : Place) (u : Table) → placed place e ≡ entryAt s opened floor at →
+      placed end u ≡ gone (memberStep s opened (e .number .0)) place (e .count) 0 (withState t (e .number .0) (e .state)) →
+      taskStep s opened (rising floor t) at ≡ placed end (rising (e .number .0 + 1) u)
+  unfolding taskStep membersAt each gone going
+  task-made e end u h g = rw (← h) (go place g)
+    where
+      go : (place : Place) → placed end u ≡ gone (memberStep s opened (e .number .0)) place (e .count) 0 (withState t (e .number .0) (e .state)) →
+          onward (placed place e) (membersAt s opened t) ≡ placed end (rising (e .number .0 + 1) u)
+      go (At first) g = rw (← g) (sym (made end u (λ v. rising (e .number .0 + 1) v)))
+      go (Refused n) g = onward-refused end g
+        where
+          onward-refused : (end : Place) → placed end u ≡ refused n → refused n ≡ placed end (rising (e .number .0 + 1) u)
+          onward-refused (At next) g = absurd (let z : _≡_ {A = ℕ} 0 1 = cc in omega arith)
+          onward-refused (Refused m) g = cc
+
+-- ---- and the end
+end-made : (s : List ℕ) (t : Table) (place : Place) → placed (endOf s place) t ≡ onward (placed place t) (ended s)
+end-made s t (At at) = go (ltb at (length s))
+  where
+    go : (b : Bool) → placed (cond b (Refused bytesAfter) (At at)) t ≡ cond b (refused bytesAfter) (value t at)
+    go true = refl
+    go false = refl
+end-made s t (Refused n) = refl
+
+module _ (s : List ℕ) (h : Head) where
+  all-made : (first : Place) → onward (placed first h) (entriesAt s) ≡ onward (gone (taskStep s (h .opened)) first (h .count) 0 (noTasks (h .opened))) (ended s)
+  unfolding entriesAt tasksAt each gone going
+  all-made (At at) = refl
+  all-made (Refused n) = refl
+
+  -- no task is left to read
+  pub entries-made : (first place : Place) (all left floor : ℕ) (t : Table) → all ≡ remainingOf first (h .count) → left ≡ 0 →
+      gone (taskStep s (h .opened)) place left floor t ≡ gone (taskStep s (h .opened)) first all 0 (noTasks (h .opened)) →
+      placed (endOf s place) t ≡ onward (placed first h) (entriesAt s)
+  entries-made first place all left floor t a l g =
+      let step = taskStep s (h .opened) in
+      let start : gone step first all 0 (noTasks (h .opened)) ≡ gone step first (h .count) 0 (noTasks (h .opened)) = rw a (gone-start step first (h .count) 0 (noTasks (h .opened))) in
+      end-made s t place ∙ ap (λ u. onward u (ended s)) (gone-end step place left floor t l ∙ g ∙ start) ∙ sym (all-made first)

@@ -1,19 +1,17 @@
 -- Document 01, 'The hall sheet', "Fields": what a reader makes of each, in their order.
 use mathlib.Core.Bool.{Bool, true, false, cond}
 use mathlib.Core.List.{List}
-use Prim.Native.Nat.{ℕ, zero, suc, _+_, _*_}
+use Prim.Native.Nat.{ℕ, _+_}
 use lib.Dec.{eqb, ltb}
 use lib.ListN.{getD, set, replicate, length}
-use Rattle.hall.specs.Effects.{withState}
+use Rattle.hall.specs.Effects.{withState, withEntry}
 use Rattle.hall.specs.Table.{largestPhase, phase0, freeTask, event, freshTable}
 use Rattle.hall.specs.declared.table.Event.{Event}
 use Rattle.hall.specs.declared.table.State.{State}
 use Rattle.hall.specs.declared.table.State.the-variants.{Running, Blocked}
 use Rattle.hall.specs.declared.table.Table.{Table}
-use Rattle.sheet.specs.declared.reader.Row.{Row}
 use Rattle.sheet.specs.declared.reader.Entry.{Entry}
 use Rattle.sheet.specs.declared.reader.Head.{Head}
-use Rattle.sheet.specs.declared.reader.Sheet.{Sheet}
 use Rattle.sheet.specs.Answers.{unknown, bytesAfter, notOpen}
 use Rattle.sheet.specs.Got.{Got, value, refused, onward, times}
 use Rattle.sheet.specs.Number.{plainAt, numberAt, risingAt}
@@ -67,52 +65,32 @@ stateOn s opened at =
     onward (plainAt s at) (λ kind next.
     cond (eqb kind 0) (value Running next) (cond (eqb kind 1) (blockedAt s opened next) (refused unknown)))
 
--- "how many memberships (up to 16), and each as phaser and phase, rising by phaser"
-abbrev pub noRow : Row
-noRow = record { phases = replicate 16 phase0; members = replicate 16 false }
+-- "its number, state ..; how many memberships (up to 16)"
+abbrev pub entryOf : ℕ → State → ℕ → Entry
+entryOf k x n = record { number = record { 0 = k }; state = x; count = n }
 
-abbrev pub withMember : Event → Row → Row
-withMember e r = record { phases = set (r .phases) (e .phaser .0) (e .phase); members = set (r .members) (e .phaser .0) true }
-
-unfoldable pub memberStep : List ℕ → List Bool → Rising Row → ℕ → Got (Rising Row)
-memberStep s opened r at =
-    onward (eventAt s opened (r .floor) at) (λ e next. value (rising (e .phaser .0 + 1) (withMember e (r .sofar))) next)
-
-unfoldable pub rowAt : List ℕ → List Bool → ℕ → Got Row
-rowAt s opened at = onward (numberAt s 16 at) (λ n first. each (memberStep s opened) n noRow first)
-
--- "each task, rising by number: its number, state ..; how many memberships .., and each"
-abbrev pub entryOf : ℕ → State → Row → Entry
-entryOf k x r = record { number = record { 0 = k }; state = x; row = r }
+unfoldable pub membersOn : List ℕ → ℕ → State → ℕ → Got Entry
+membersOn s k x at = onward (numberAt s 16 at) (λ n next. value (entryOf k x n) next)
 
 unfoldable pub entryOn : List ℕ → List Bool → ℕ → ℕ → Got Entry
-entryOn s opened k at =
-    onward (stateOn s opened at) (λ x second. onward (rowAt s opened second) (λ r next. value (entryOf k x r) next))
+entryOn s opened k at = onward (stateOn s opened at) (membersOn s k)
 
 unfoldable pub entryAt : List ℕ → List Bool → ℕ → ℕ → Got Entry
 entryAt s opened floor at = onward (risingAt s 31 floor at) (entryOn s opened)
 
+-- "and each as phaser and phase, rising by phaser"
+unfoldable pub memberStep : List ℕ → List Bool → ℕ → Rising Table → ℕ → Got (Rising Table)
+memberStep s opened k r at =
+    onward (eventAt s opened (r .floor) at) (λ e next. value (rising (e .phaser .0 + 1) (withEntry (r .sofar) k (e .phaser .0) true (e .phase .0))) next)
+
 -- ---- the table
--- the first n of a row, from place b of a list on
-unfoldable pub laid : {A : Type 0} → A → ℕ → ℕ → List A → List A → List A
-laid none zero b row l = l
-laid none (suc n) b row l = set (laid none n b row l) (b + n) (getD row n none)
-
--- a task's entry in the table: its state, and its sixteen places
-unfoldable pub withRow : ℕ → ℕ → Row → Table → Table
-withRow n k r t = record {
-  tasks = t .tasks;
-  opened = t .opened;
-  phases = laid phase0 n (k * 16) (r .phases) (t .phases);
-  members = laid false n (k * 16) (r .members) (t .members);
-}
-
-abbrev pub entered : Entry → Table → Table
-entered e t = withRow 16 (e .number .0) (e .row) (withState t (e .number .0) (e .state))
+-- "each task, rising by number": its state, and its memberships
+unfoldable pub membersAt : List ℕ → List Bool → Table → Entry → ℕ → Got (Rising Table)
+membersAt s opened t e at =
+    onward (each (memberStep s opened (e .number .0)) (e .count) (withState t (e .number .0) (e .state)) at) (λ u next. value (rising (e .number .0 + 1) u) next)
 
 unfoldable pub taskStep : List ℕ → List Bool → Rising Table → ℕ → Got (Rising Table)
-taskStep s opened r at =
-    onward (entryAt s opened (r .floor) at) (λ e next. value (rising (e .number .0 + 1) (entered e (r .sofar))) next)
+taskStep s opened r at = onward (entryAt s opened (r .floor) at) (membersAt s opened (r .sofar))
 
 -- these phasers are open, and there is no task
 abbrev pub noTasks : List Bool → Table
@@ -131,13 +109,17 @@ entriesAt s h at = onward (tasksAt s h at) (ended s)
 unfoldable pub tableAt : List ℕ → Got Table
 tableAt s = onward (headAt s) (entriesAt s)
 
--- what the reader hands back: "A sheet reader that refuses hands back a fresh table"
-abbrev pub refusedBy : ℕ → Sheet
-refusedBy n = record { answer = n; table = freshTable }
+-- what the reader hands back: its answer and a table; "A sheet reader that refuses hands back a fresh table"
+pub record Sheet : Type 0 where
+  pub answer : ℕ
+  pub table : Table
+
+abbrev pub hands : ℕ → Table → Sheet
+hands answer table = record { answer = answer; table = table }
 
 abbrev pub handed : Got Table → Sheet
-handed (value t at) = record { answer = 0; table = t }
-handed (refused n) = refusedBy n
+handed (value t at) = hands 0 t
+handed (refused n) = hands n freshTable
 
 unfoldable pub sheetAt : List ℕ → Sheet
 sheetAt s = handed (tableAt s)

@@ -1,5 +1,10 @@
 -- Places and refusals of the reader's own parts: nobody need believe this file, since only promises of private functions name it.
-use Prim.Native.Nat.{ℕ}
+use mathlib.Core.Bool.{cond}
+use mathlib.Core.List.{List}
+use Prim.Native.Nat.{ℕ, _+_}
+use lib.Dec.{ltb}
+use lib.ListN.{length}
+use Rattle.sheet.specs.Answers.{bytesAfter}
 use Rattle.sheet.specs.declared.number.Number.{Number}
 use Rattle.sheet.specs.declared.number.Number.the-variants.{Value, Refused as NoNumber}
 use Rattle.sheet.specs.declared.reader.Place.{Place}
@@ -16,6 +21,22 @@ abbrev pub placeAfter : Number → Place
 placeAfter (Value v next) = At next
 placeAfter (NoNumber n) = Refused n
 
-abbrev pub refusalOf : Place → ℕ
-refusalOf (At next) = 0
-refusalOf (Refused n) = n
+-- where the reading goes on; after a refusal, anywhere
+abbrev pub nextOf : Place → ℕ
+nextOf (At next) = next
+nextOf (Refused n) = 0
+
+-- so many are still to be read; after a refusal none
+abbrev pub remainingOf : Place → ℕ → ℕ
+remainingOf (At next) left = left
+remainingOf (Refused n) left = 0
+
+-- one more than the task that was read; after a refusal no number rises
+abbrev pub risenOf : Place → ℕ → ℕ
+risenOf (At next) number = number + 1
+risenOf (Refused n) number = 32
+
+-- "35 comes last"
+abbrev pub endOf : List ℕ → Place → Place
+endOf s (At next) = cond (ltb next (length s)) (Refused bytesAfter) (At next)
+endOf s (Refused n) = Refused n

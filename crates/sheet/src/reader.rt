@@ -1,11 +1,13 @@
-// The reader of a hall sheet. Head, row and entry are small values; only `entries` holds the table.
+// The reader of a hall sheet. Head and entry are small values; only `entries` holds the table.
 ghost use mathlib.Core.Path.{_≡_};
 ghost use lib.ListN.{replicate};
 ghost use mathlib.Core.Bool.{false};
-ghost use Rattle.sheet.specs.Places.{placed, placeAfter, refusalOf};
+ghost use Prim.Native.Nat.{_≤_};
+ghost use Rattle.sheet.specs.Got.{onward};
+ghost use Rattle.sheet.specs.Places.{placed, placeAfter, nextOf, remainingOf, risenOf, endOf};
 ghost use Rattle.sheet.specs.Fields.{each, openStep, opensAt, countAt, listsAt, headAt};
-ghost use Rattle.sheet.specs.Fields.{phaseOn, eventAt, blockedAt, stateOn, memberStep, noRow, rowAt, entryOn, entryAt};
-ghost use Rattle.sheet.specs.Fields.{noTasks, entriesAt, handed, refusedBy, sheetAt};
+ghost use Rattle.sheet.specs.Fields.{phaseOn, eventAt, blockedAt, stateOn, membersOn, entryOn, entryAt};
+ghost use Rattle.sheet.specs.Fields.{noTasks, entriesAt, hands, handed, sheetAt};
 use crate::answers::BYTES_AFTER;
 use crate::answers::NOT_OPEN;
 use crate::answers::UNKNOWN;
@@ -35,13 +37,48 @@ fn after(number: Number) -> Place
     }
 }
 
-fn refusal(place: Place) -> u32
-    ensures { λ r. ⌜ r ≡ refusalOf place ⌝ }
+// Where the reading goes on; after a refusal it goes nowhere.
+fn next(place: Place) -> usize
+    ensures { λ r. ⌜ r ≡ nextOf place ⌝ }
 {
     match place {
-        Place::At(_) => 0,
-        Place::Refused(n) => n,
+        Place::At(at) => at,
+        Place::Refused(_) => 0,
     }
+}
+
+// How many are still to be read: after a refusal none.
+fn remaining(place: Place, left: u64) -> u64
+    ensures { λ r. ⌜ r ≡ remainingOf place left ⌝ }
+{
+    match place {
+        Place::At(_) => left,
+        Place::Refused(_) => 0,
+    }
+}
+
+// The least number that rises after a task's: after a refusal none does.
+fn risen(place: Place, number: u64) -> u64
+    requires { ⌜ number ≤ 31 ⌝ }
+    ensures { λ r. ⌜ r ≡ risenOf place number ⌝ }
+{
+    match place {
+        Place::At(_) => number + 1,
+        Place::Refused(_) => 32,
+    }
+}
+
+// Bytes after the sheet are refused last.
+fn ended(sheet: &[u8], place: Place) -> Place
+    ensures { λ r. ⌜ r ≡ endOf (now (sheet .entry)) place ⌝ }
+{
+    let Place::At(at) = place else {
+        return place;
+    };
+    if at < sheet.len() {
+        return Place::Refused(BYTES_AFTER);
+    }
+    place
 }
 
 // The open phasers.
@@ -161,7 +198,7 @@ pub struct ReadEvent {
 }
 
 fn no_event(place: Place) -> ReadEvent
-    ensures { λ r. ⌜ r .place ≡ place ⌝ }
+    ensures { λ r. ⌜ (r .place ≡ place) × (r .event .phaser .0 ≡ 0) ⌝ }
 {
     let event = Event {
         phaser: PhaserNo(0),
@@ -172,7 +209,7 @@ fn no_event(place: Place) -> ReadEvent
 
 // The phase, the phaser being read.
 fn phase_on(sheet: &[u8], phaser: PhaserNo, at: usize) -> ReadEvent
-    ensures { λ r. ⌜ placed (r .place) (r .event) ≡ phaseOn (now (sheet .entry)) (phaser .0) at ⌝ }
+    ensures { λ r. ⌜ (placed (r .place) (r .event) ≡ phaseOn (now (sheet .entry)) (phaser .0) at) × (r .event .phaser .0 ≤ phaser .0) ⌝ }
 {
     let number = number::read(sheet, LARGEST_PHASE as u64, at);
     let Number::Value(phase, next) = number else {
@@ -189,7 +226,7 @@ fn phase_on(sheet: &[u8], phaser: PhaserNo, at: usize) -> ReadEvent
 }
 
 fn event_at(sheet: &[u8], opened: &[bool; 16], floor: u64, at: usize) -> ReadEvent
-    ensures { λ r. ⌜ placed (r .place) (r .event) ≡ eventAt (now (sheet .entry)) (now (opened .entry)) floor at ⌝ }
+    ensures { λ r. ⌜ (placed (r .place) (r .event) ≡ eventAt (now (sheet .entry)) (now (opened .entry)) floor at) × (r .event .phaser .0 ≤ 15) ⌝ }
 {
     let number = number::rising(sheet, 15, floor, at);
     let Number::Value(phaser, next) = number else {
@@ -247,76 +284,11 @@ fn state_on(sheet: &[u8], opened: &[bool; 16], at: usize) -> ReadState
     }
 }
 
-// A task's memberships: for each phaser the kept phase, and whether the task is a member.
-pub struct Row {
-    pub phases: [Phase; 16],
-    pub members: [bool; 16],
-}
-
-pub struct ReadRow {
-    pub place: Place,
-    pub row: Row,
-}
-
-fn no_row() -> Row
-    ensures { λ r. ⌜ r ≡ noRow ⌝ }
-{
-    Row {
-        phases: [Phase(0); 16],
-        members: [false; 16],
-    }
-}
-
-// So many memberships.
-fn row_run(sheet: &[u8], opened: &[bool; 16], count: u64, first: usize) -> ReadRow
-    ensures { λ r. ⌜ placed (r .place) (r .row) ≡ each (memberStep (now (sheet .entry)) (now (opened .entry))) count noRow first ⌝ }
-{
-    let mut row = no_row();
-    let mut floor: u64 = 0;
-    let mut at = first;
-    let mut left = count;
-    while 0 < left {
-        let read = event_at(sheet, opened, floor, at);
-        let place = read.place;
-        let Place::At(next) = place else {
-            return ReadRow { place, row };
-        };
-        let event = read.event;
-        let phaser = event.phaser.0;
-        let i = phaser as usize;
-        let phase = event.phase;
-        row.phases[i] = phase;
-        row.members[i] = true;
-        floor = phaser + 1;
-        at = next;
-        left = left - 1;
-    }
-    ReadRow {
-        place: Place::At(at),
-        row,
-    }
-}
-
-// How many memberships, and each.
-fn row_at(sheet: &[u8], opened: &[bool; 16], at: usize) -> ReadRow
-    ensures { λ r. ⌜ placed (r .place) (r .row) ≡ rowAt (now (sheet .entry)) (now (opened .entry)) at ⌝ }
-{
-    let number = number::read(sheet, 16, at);
-    let Number::Value(count, first) = number else {
-        let row = no_row();
-        return ReadRow {
-            place: after(number),
-            row,
-        };
-    };
-    row_run(sheet, opened, count, first)
-}
-
-// A task's number, state and memberships.
+// A task's number and state, and how many memberships follow.
 pub struct Entry {
     pub number: TaskNo,
     pub state: State,
-    pub row: Row,
+    pub count: u64,
 }
 
 pub struct ReadEntry {
@@ -325,36 +297,50 @@ pub struct ReadEntry {
 }
 
 fn no_entry(place: Place) -> ReadEntry
-    ensures { λ r. ⌜ r .place ≡ place ⌝ }
+    ensures { λ r. ⌜ (r .place ≡ place) × (r .entry .number .0 ≡ 0) ⌝ }
 {
-    let row = no_row();
     let entry = Entry {
         number: TaskNo(0),
         state: State::Free,
-        row,
+        count: 0,
     };
     ReadEntry { place, entry }
 }
 
+// How many memberships, number and state being read.
+fn members_on(sheet: &[u8], number: TaskNo, state: State, at: usize) -> ReadEntry
+    ensures { λ r. ⌜ (placed (r .place) (r .entry) ≡ membersOn (now (sheet .entry)) (number .0) state at) × (r .entry .number .0 ≤ number .0) ⌝ }
+{
+    let read = number::read(sheet, 16, at);
+    let Number::Value(count, next) = read else {
+        return no_entry(after(read));
+    };
+    let entry = Entry {
+        number,
+        state,
+        count,
+    };
+    ReadEntry {
+        place: Place::At(next),
+        entry,
+    }
+}
+
 // State and memberships, the number being read.
 fn entry_on(sheet: &[u8], opened: &[bool; 16], number: TaskNo, at: usize) -> ReadEntry
-    ensures { λ r. ⌜ placed (r .place) (r .entry) ≡ entryOn (now (sheet .entry)) (now (opened .entry)) (number .0) at ⌝ }
+    ensures { λ r. ⌜ (placed (r .place) (r .entry) ≡ entryOn (now (sheet .entry)) (now (opened .entry)) (number .0) at) × (r .entry .number .0 ≤ number .0) ⌝ }
 {
     let stated = state_on(sheet, opened, at);
     let place = stated.place;
-    let Place::At(second) = place else {
+    let Place::At(next) = place else {
         return no_entry(place);
     };
     let state = stated.state;
-    let read = row_at(sheet, opened, second);
-    let end = read.place;
-    let row = read.row;
-    let entry = Entry { number, state, row };
-    ReadEntry { place: end, entry }
+    members_on(sheet, number, state, next)
 }
 
 fn entry_at(sheet: &[u8], opened: &[bool; 16], floor: u64, at: usize) -> ReadEntry
-    ensures { λ r. ⌜ placed (r .place) (r .entry) ≡ entryAt (now (sheet .entry)) (now (opened .entry)) floor at ⌝ }
+    ensures { λ r. ⌜ (placed (r .place) (r .entry) ≡ entryAt (now (sheet .entry)) (now (opened .entry)) floor at) × (r .entry .number .0 ≤ 31) ⌝ }
 {
     let number = number::rising(sheet, 31, floor, at);
     let Number::Value(task, next) = number else {
@@ -376,68 +362,62 @@ fn no_tasks(opened: [bool; 16]) -> Table
     }
 }
 
-// What the reader hands back: 0 and the table, or the refusal and a fresh table.
-pub struct Sheet {
-    pub answer: u32,
-    pub table: Table,
-}
-
-fn refused(answer: u32) -> Sheet
-    ensures { λ r. ⌜ r ≡ refusedBy answer ⌝ }
+// The tasks, and the end. There is one table, and a fault wipes it where it stands: a second one, or a struct around it, would cost a copy of
+// 3 kB, which is more than a small sheet takes to read.
+fn entries(sheet: &[u8], read: ReadHead, answer: &mut u32) -> Table
+    ensures { λ r. ⌜ hands (now (answer .exit)) r ≡ handed (onward (placed (read .place) (read .head)) (entriesAt (now (sheet .entry)))) ⌝ }
 {
-    let table = no_tasks([false; 16]);
-    Sheet { answer, table }
-}
-
-// The tasks, and the end.
-fn entries(sheet: &[u8], head: Head, first: usize) -> Sheet
-    ensures { λ r. ⌜ r ≡ handed (entriesAt (now (sheet .entry)) head first) ⌝ }
-{
+    let head = read.head;
     let opened = head.opened;
     let mut table = no_tasks(opened);
+    let mut place = read.place;
     let mut floor: u64 = 0;
-    let mut at = first;
-    let mut left = head.count;
+    let mut left = remaining(place, head.count);
     while 0 < left {
-        let read = entry_at(sheet, &opened, floor, at);
-        let place = read.place;
-        let Place::At(next) = place else {
-            return refused(refusal(place));
-        };
+        let read = entry_at(sheet, &opened, floor, next(place));
         let entry = read.entry;
         let number = entry.number.0;
         let k = number as usize;
         let state = entry.state;
         table.tasks[k] = Task { state };
-        let row = entry.row;
-        let mut p: usize = 0;
-        while p < 16 {
-            let phase = row.phases[p];
-            let member = row.members[p];
-            let i = k * 16 + p;
+        place = read.place;
+        let mut least: u64 = 0;
+        let mut members = remaining(place, entry.count);
+        while 0 < members {
+            let joined = event_at(sheet, &opened, least, next(place));
+            let event = joined.event;
+            let phaser = event.phaser.0;
+            let phase = event.phase;
+            let i = k * 16 + phaser as usize;
             table.phases[i] = phase;
-            table.members[i] = member;
-            p = p + 1;
+            table.members[i] = true;
+            place = joined.place;
+            least = phaser + 1;
+            members = remaining(place, members - 1);
         }
-        floor = number + 1;
-        at = next;
-        left = left - 1;
+        floor = risen(place, number);
+        left = remaining(place, left - 1);
     }
-    if at < sheet.len() {
-        return refused(BYTES_AFTER);
+    let end = ended(sheet, place);
+    let Place::Refused(fault) = end else {
+        *answer = 0;
+        return table;
+    };
+    *answer = fault;
+    table.opened = [false; 16];
+    table.phases = [Phase(0); 512];
+    table.members = [false; 512];
+    while 0 < floor {
+        floor = floor - 1;
+        let k = floor as usize;
+        table.tasks[k] = Task { state: State::Free };
     }
-    Sheet { answer: 0, table }
+    table
 }
 
-// The table of a sheet.
-pub fn read(sheet: &[u8]) -> Sheet
-    ensures { λ r. ⌜ r ≡ sheetAt (now (sheet .entry)) ⌝ }
+// The table of a sheet, and 0 for `answer`; or a fresh table, and the refusal.
+pub fn read(sheet: &[u8], answer: &mut u32) -> Table
+    ensures { λ r. ⌜ hands (now (answer .exit)) r ≡ sheetAt (now (sheet .entry)) ⌝ }
 {
-    let read = head_at(sheet);
-    let place = read.place;
-    let Place::At(first) = place else {
-        return refused(refusal(place));
-    };
-    let head = read.head;
-    entries(sheet, head, first)
+    entries(sheet, head_at(sheet), answer)
 }

@@ -3,7 +3,7 @@ use mathlib.Core.Path.{ap, sym, _∙_, subst}
 use native.Mathlib.Omega.{arith}
 use borrow.Author.Needs.{needs}
 use Rattle.judge.specs.Verdict.{nobody, Judged}
-use Rattle.sheet.specs.declared.reader.Sheet.{Sheet}
+use Rattle.sheet.specs.Fields.{Sheet}
 use Rattle.mollavisce.proofs.entry.verdict_of.Statement.{statement}
 use Rattle.mollavisce.proofs.entry.verdict_of.Tie as tie
 
@@ -27,7 +27,7 @@ returns-2 : tie.Need-returns-2
 returns-2 c =
     let same = ap (λ (s : Sheet). s .answer) (c .before .before .read .ensures) in
     record {
-      no-route = λ l. absurd (omega (arith, l, c .before .before .before .if1 .left));
+      no-route = λ l. absurd (omega (arith, l, c .before .before .before .before .if1 .left));
       refused = λ _ _. c .nobody2 .ensures ∙ ap nobody same;
       judged = λ _ e. absurd (c .before .if2 .taken (same ∙ e));
     }
@@ -37,10 +37,10 @@ judge-requires c κs = search needs
 
 returns-3 : tie.Need-returns-3
 returns-3 c =
-    let same = c .before .before .before .read .ensures in
+    let same = c .before .before .read .ensures in
     record {
       no-route = λ l. absurd (omega (arith, l, c .before .before .before .before .if1 .left));
-      refused = λ _ n. absurd (n (sym (ap (λ (s : Sheet). s .answer) same) ∙ c .before .before .if2 .left));
+      refused = λ _ n. absurd (n (sym (ap (λ (s : Sheet). s .answer) same) ∙ c .before .if2 .left));
       judged = λ _ _. subst (λ (s : Sheet). Judged (s .table) (c .before .before .before .before .before .before .args .route) (c .judge .result)) same (c .judge .ensures);
     }
 

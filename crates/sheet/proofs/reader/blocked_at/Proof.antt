@@ -10,7 +10,7 @@ event-at-requires c κs = search needs
 
 returns : tie.Need-returns
 unfolding blockedAt
-returns c = rw (← c .before .event-at .ensures) (made (c .before .event-at .result .place) (c .before .event-at .result .event) Blocked)
+returns c = rw (← c .before .event-at .ensures .0) (made (c .before .event-at .result .place) (c .before .event-at .result .event) Blocked)
 
 pub blocked-at-spec : {M : Type 1} → statement M
 blocked-at-spec = tie.close (tie.spec event-at-requires returns)

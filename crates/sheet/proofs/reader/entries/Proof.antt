@@ -1,126 +1,189 @@
--- The tasks that are left, read from here on into the table, give what all of them give; in the inner loop the first p places of the row are laid.
+-- From the place on, the tasks that are left give what all of them give, and no task from the floor on is live yet; within a task, its memberships that are
+-- left give what all of them give. After a fault the tasks are freed one by one from the floor down.
 use borrow.Author.Needs.{needs}
 use native.Mathlib.Omega.{arith}
-use mathlib.Core.Path.{_≡_, ap, _∙_}
-use Prim.Native.Nat.{_-_, _≤_}
-use borrow.Author.Tests.{lt-ltb, le-ltb}
-use Rattle.hall.specs.Effects.{withState}
-use Rattle.sheet.specs.Got.{onward}
-use Rattle.sheet.specs.Places.{refusalOf}
-use Rattle.sheet.specs.Fields.{rising, each, taskStep, tasksAt, noTasks, entriesAt, ended, handed, refusedBy, withRow}
-use Rattle.sheet.proofs.Onward.{part-read, part-refused, going, going-refused, going-end}
-use Rattle.sheet.proofs.Bounds.{entry-bound}
-use Rattle.sheet.proofs.Steps.{task-turn, task-refused, row-none, row-more}
+use mathlib.Core.Path.{_≡_, refl, sym, ap, _∙_}
+use Prim.Native.Nat.{_+_, _-_}
+use Rattle.hall.specs.Effects.{withState, withEntry}
+use Rattle.sheet.specs.Places.{remainingOf, risenOf}
+use Rattle.sheet.specs.Fields.{rising, memberStep, taskStep, noTasks, hands, handed}
+use Rattle.sheet.proofs.Onward.{gone, gone-start, gone-turn, gone-end, remaining-settled, remaining-less}
+use Rattle.sheet.proofs.Steps.{member-made, task-made, entries-made}
+use Rattle.sheet.proofs.Wiped.{FreeFrom, free-start, free-risen, Wiped, wipe-one, wiped-fresh}
 use Rattle.sheet.proofs.reader.entries.Statement.{statement}
 use Rattle.sheet.proofs.reader.entries.Tie as tie
 
 abbrev Inv-loop2 : tie.InvT-loop2
-Inv-loop2 sheet first opened table₀ floor at left next number k row p₀ table p = (p ≤ 16) × (table ≡ withRow p k row table₀)
+Inv-loop2 sheet answer opened table₀ place₀ floor left number k least₀ members₀ table place least members =
+    (gone (memberStep sheet opened k) place members least table ≡ gone (memberStep sheet opened k) place₀ members₀ 0 table₀)
+    × (members ≡ remainingOf place members) × (table .tasks ≡ table₀ .tasks)
 
 abbrev μ-loop2 : tie.MeasureT-loop2
-μ-loop2 sheet first opened table₀ floor at left next number k row p₀ table p = 16 - p
+μ-loop2 sheet answer opened table₀ place₀ floor left number k least₀ members₀ table place least members = members
 
 abbrev Inv-loop : tie.InvT-loop
-Inv-loop sheet first opened table₀ floor₀ at₀ left₀ table floor at left =
-    going (taskStep sheet opened) left floor table at ≡ going (taskStep sheet opened) left₀ 0 (noTasks opened) first
+Inv-loop sheet answer opened table₀ place₀ floor₀ left₀ table place floor left =
+    (gone (taskStep sheet opened) place left floor table ≡ gone (taskStep sheet opened) place₀ left₀ 0 (noTasks opened))
+    × (left ≡ remainingOf place left) × FreeFrom floor (table .tasks)
 
 abbrev μ-loop : tie.MeasureT-loop
-μ-loop sheet first opened table₀ floor₀ at₀ left₀ table floor at left = left
+μ-loop sheet answer opened table₀ place₀ floor₀ left₀ table place floor left = left
 
-no-tasks-requires : tie.Need-no-tasks-requires Inv-loop2 μ-loop2 Inv-loop μ-loop
+abbrev Inv-loop3 : tie.InvT-loop3
+Inv-loop3 sheet answer table₀ floor₀ left fault table floor = Wiped floor table
+
+abbrev μ-loop3 : tie.MeasureT-loop3
+μ-loop3 sheet answer table₀ floor₀ left fault table floor = floor
+
+no-tasks-requires : tie.Need-no-tasks-requires Inv-loop2 μ-loop2 Inv-loop μ-loop Inv-loop3 μ-loop3
 no-tasks-requires c κs = search needs
 
-loop-holds : tie.Need-loop-holds Inv-loop2 μ-loop2 Inv-loop μ-loop
-loop-holds c = rw (c .no-tasks .ensures)
+remaining-requires : tie.Need-remaining-requires Inv-loop2 μ-loop2 Inv-loop μ-loop Inv-loop3 μ-loop3
+remaining-requires c κs = search needs
 
-entry-at-requires : tie.Need-entry-at-requires Inv-loop2 μ-loop2 Inv-loop μ-loop
+loop-holds : tie.Need-loop-holds Inv-loop2 μ-loop2 Inv-loop μ-loop Inv-loop3 μ-loop3
+loop-holds c =
+    let read = c .before .before .before .before .before .args .read in
+    (rw (c .before .no-tasks .ensures), remaining-settled (read .place) _ (read .head .count) (c .remaining .ensures), rw (c .before .no-tasks .ensures) free-start)
+
+next-requires : tie.Need-next-requires Inv-loop2 μ-loop2 Inv-loop μ-loop Inv-loop3 μ-loop3
+next-requires c κs = search needs
+
+entry-at-requires : tie.Need-entry-at-requires Inv-loop2 μ-loop2 Inv-loop μ-loop Inv-loop3 μ-loop3
 entry-at-requires c κs = search needs
 
-enum-known-place : tie.Need-enum-known-place Inv-loop2 μ-loop2 Inv-loop μ-loop
-enum-known-place c = search needs
+mul-t29 : tie.Need-mul-t29 Inv-loop2 μ-loop2 Inv-loop μ-loop Inv-loop3 μ-loop3
+mul-t29 c = record { fits = omega (arith, c .before .entry-at .ensures .1) }
 
-enum-told : tie.Need-enum-told Inv-loop2 μ-loop2 Inv-loop μ-loop
-enum-told c = search needs
+element-set-from-table : tie.Need-element-set-from-table Inv-loop2 μ-loop2 Inv-loop μ-loop Inv-loop3 μ-loop3
+element-set-from-table c = omega (arith, c .before .entry-at .ensures .1)
 
-refusal-requires : tie.Need-refusal-requires Inv-loop2 μ-loop2 Inv-loop μ-loop
-refusal-requires c κs = search needs
+remaining-requires-2 : tie.Need-remaining-requires-2 Inv-loop2 μ-loop2 Inv-loop μ-loop Inv-loop3 μ-loop3
+remaining-requires-2 c κs = search needs
 
-refused-requires : tie.Need-refused-requires Inv-loop2 μ-loop2 Inv-loop μ-loop
-refused-requires c κs = search needs
+loop2-holds : tie.Need-loop2-holds Inv-loop2 μ-loop2 Inv-loop μ-loop Inv-loop3 μ-loop3
+loop2-holds c =
+    let entry = c .before .before .entry-at .result in
+    (refl, remaining-settled (entry .place) _ (entry .entry .count) (c .remaining2 .ensures), refl)
 
-returns : tie.Need-returns Inv-loop2 μ-loop2 Inv-loop μ-loop
-unfolding entriesAt tasksAt each going
-returns c =
-    c .refused .ensures ∙ ap refusedBy (c .before .refusal .ensures ∙ ap refusalOf (c .before .before .enum-told .given .1))
-    ∙ ap (λ g. handed (onward g (ended (c .before .before .before .before .before .before .before .before .before .before .before .args .sheet .now)))) (going-refused (taskStep _ _) (c .before .before .before .before .before .before .before .loop .floor) (c .before .before .before .before .before .before .before .loop .table) (c .before .before .before .before .before .before .before .loop .at) (c .before .before .before .before .before .before .before .loop .left) (c .before .before .before .before .before .before .loop-test .taken) (task-refused _ _ (rising (c .before .before .before .before .before .before .before .loop .floor) (c .before .before .before .before .before .before .before .loop .table)) _ (part-refused _ (c .before .before .before .before .entry-at .ensures) (c .before .before .enum-told .given .1))) ∙ c .before .before .before .before .before .before .before .loop .inv)
+next-requires-2 : tie.Need-next-requires-2 Inv-loop2 μ-loop2 Inv-loop μ-loop Inv-loop3 μ-loop3
+next-requires-2 c κs = search needs
 
-mul-t27 : tie.Need-mul-t27 Inv-loop2 μ-loop2 Inv-loop μ-loop
-mul-t27 c = record { fits = omega (arith, entry-bound _ _ _ _ (part-read _ (c .before .before .before .before .entry-at .ensures) (c .before .before .place .given .1))) }
+event-at-requires : tie.Need-event-at-requires Inv-loop2 μ-loop2 Inv-loop μ-loop Inv-loop3 μ-loop3
+event-at-requires c κs = search needs
 
-element-set-from-table : tie.Need-element-set-from-table Inv-loop2 μ-loop2 Inv-loop μ-loop
-element-set-from-table c = omega (arith, entry-bound _ _ _ _ (part-read _ (c .before .before .before .before .entry-at .ensures) (c .before .before .place .given .1)))
+mul-i : tie.Need-mul-i Inv-loop2 μ-loop2 Inv-loop μ-loop Inv-loop3 μ-loop3
+mul-i c = record { fits = omega (arith, c .before .before .event-at .ensures .1, c .before .before .before .before .before .before .before .before .before .entry-at .ensures .1) }
 
-loop2-holds : tie.Need-loop2-holds Inv-loop2 μ-loop2 Inv-loop μ-loop
-loop2-holds c = (omega arith, row-none _ _ _)
+add-i : tie.Need-add-i Inv-loop2 μ-loop2 Inv-loop μ-loop Inv-loop3 μ-loop3
+add-i c = record { fits = omega (arith, c .before .before .event-at .ensures .1, c .before .before .before .before .before .before .before .before .before .entry-at .ensures .1) }
 
-mul-phase : tie.Need-mul-phase Inv-loop2 μ-loop2 Inv-loop μ-loop
-mul-phase c = search needs
+mul-phase : tie.Need-mul-phase Inv-loop2 μ-loop2 Inv-loop μ-loop Inv-loop3 μ-loop3
+mul-phase c = record { fits = omega (arith, c .before .before .event-at .ensures .1, c .before .before .before .before .before .before .before .before .before .entry-at .ensures .1) }
 
-element-copy-out-phase : tie.Need-element-copy-out-phase Inv-loop2 μ-loop2 Inv-loop μ-loop
-element-copy-out-phase c = search needs
+element-set-from-phase : tie.Need-element-set-from-phase Inv-loop2 μ-loop2 Inv-loop μ-loop Inv-loop3 μ-loop3
+element-set-from-phase c = omega (arith, c .before .before .event-at .ensures .1, c .before .before .before .before .before .before .before .before .before .entry-at .ensures .1)
 
-element-copy-out-member : tie.Need-element-copy-out-member Inv-loop2 μ-loop2 Inv-loop μ-loop
-element-copy-out-member c = search needs
+element-write-table : tie.Need-element-write-table Inv-loop2 μ-loop2 Inv-loop μ-loop Inv-loop3 μ-loop3
+element-write-table c = omega (arith, c .before .before .event-at .ensures .1, c .before .before .before .before .before .before .before .before .before .entry-at .ensures .1)
 
-mul-i : tie.Need-mul-i Inv-loop2 μ-loop2 Inv-loop μ-loop
-mul-i c = record { fits = omega (arith, entry-bound _ _ _ _ (part-read _ (c .before .before .before .before .before .before .before .before .before .entry-at .ensures) (c .before .before .before .before .before .before .before .place .given .1))) }
+add-least : tie.Need-add-least Inv-loop2 μ-loop2 Inv-loop μ-loop Inv-loop3 μ-loop3
+add-least c = record { fits = omega (arith, c .before .before .event-at .ensures .1) }
 
-add-i : tie.Need-add-i Inv-loop2 μ-loop2 Inv-loop μ-loop
-add-i c = record { fits = omega (arith, entry-bound _ _ _ _ (part-read _ (c .before .before .before .before .before .before .before .before .before .entry-at .ensures) (c .before .before .before .before .before .before .before .place .given .1))) }
+sub-remaining : tie.Need-sub-remaining Inv-loop2 μ-loop2 Inv-loop μ-loop Inv-loop3 μ-loop3
+sub-remaining c = search needs
 
-mul-phase-2 : tie.Need-mul-phase-2 Inv-loop2 μ-loop2 Inv-loop μ-loop
-mul-phase-2 c = record { fits = omega (arith, entry-bound _ _ _ _ (part-read _ (c .before .before .before .before .before .before .before .before .before .entry-at .ensures) (c .before .before .before .before .before .before .before .place .given .1))) }
+remaining-requires-3 : tie.Need-remaining-requires-3 Inv-loop2 μ-loop2 Inv-loop μ-loop Inv-loop3 μ-loop3
+remaining-requires-3 c κs = search needs
 
-element-set-from-phase : tie.Need-element-set-from-phase Inv-loop2 μ-loop2 Inv-loop μ-loop
-element-set-from-phase c = omega (arith, entry-bound _ _ _ _ (part-read _ (c .before .before .before .before .before .before .before .before .before .entry-at .ensures) (c .before .before .before .before .before .before .before .place .given .1)))
+loop2-less : tie.Need-loop2-less Inv-loop2 μ-loop2 Inv-loop μ-loop Inv-loop3 μ-loop3
+loop2-less c = remaining-less (c .before .before .before .event-at .result .place) (c .before .before .before .before .before .before .before .loop2 .members) _ (c .before .before .before .before .before .before .loop2-test .taken) (c .remaining3 .ensures)
 
-element-write-table : tie.Need-element-write-table Inv-loop2 μ-loop2 Inv-loop μ-loop
-element-write-table c = omega (arith, entry-bound _ _ _ _ (part-read _ (c .before .before .before .before .before .before .before .before .before .entry-at .ensures) (c .before .before .before .before .before .before .before .place .given .1)))
+loop2-again : tie.Need-loop2-again Inv-loop2 μ-loop2 Inv-loop μ-loop Inv-loop3 μ-loop3
+unfolding withEntry
+loop2-again c =
+    let at = c .before .before .before .before .before .before in
+    let loop = at .before .loop2 in
+    let event = c .before .before .before .event-at in
+    let place = event .result .place in
+    let step = ap (memberStep _ _ _ (rising (loop .least) (loop .table))) (sym (c .before .before .before .before .next2 .ensures)) ∙ member-made _ _ (loop .least) _ (loop .table) place _ (event .result .event) (event .ensures .0) in (
+      rw (c .remaining3 .ensures) (gone-turn (memberStep _ _ _) (loop .place) place (loop .members) (loop .least) _ _ (loop .table) _ (at .loop2-test .taken) (loop .inv .1) step (λ _ _. refl)) ∙ loop .inv .0,
+      remaining-settled place _ (loop .members - 1) (c .remaining3 .ensures),
+      loop .inv .2,
+    )
 
-add-p : tie.Need-add-p Inv-loop2 μ-loop2 Inv-loop μ-loop
-add-p c = search needs
+risen-requires : tie.Need-risen-requires Inv-loop2 μ-loop2 Inv-loop μ-loop Inv-loop3 μ-loop3
+risen-requires c κs = c .before .before .before .before .entry-at .ensures .1
 
-loop2-less : tie.Need-loop2-less Inv-loop2 μ-loop2 Inv-loop μ-loop
-loop2-less c = search needs
+sub-remaining-2 : tie.Need-sub-remaining-2 Inv-loop2 μ-loop2 Inv-loop μ-loop Inv-loop3 μ-loop3
+sub-remaining-2 c = search needs
 
-loop2-again : tie.Need-loop2-again Inv-loop2 μ-loop2 Inv-loop μ-loop
-loop2-again c = (omega arith, row-more _ _ _ _ _ (c .before .before .before .loop2 .inv .1))
+remaining-requires-4 : tie.Need-remaining-requires-4 Inv-loop2 μ-loop2 Inv-loop μ-loop Inv-loop3 μ-loop3
+remaining-requires-4 c κs = search needs
 
-add-floor : tie.Need-add-floor Inv-loop2 μ-loop2 Inv-loop μ-loop
-add-floor c = record { fits = omega (arith, entry-bound _ _ _ _ (part-read _ (c .before .before .before .before .before .before .before .entry-at .ensures) (c .before .before .before .before .before .place .given .1))) }
+loop-less : tie.Need-loop-less Inv-loop2 μ-loop2 Inv-loop μ-loop Inv-loop3 μ-loop3
+loop-less c = remaining-less (c .before .before .before .loop2 .place) (c .before .before .before .before .before .before .before .before .before .before .loop .left) _ (c .before .before .before .before .before .before .before .before .before .loop-test .taken) (c .remaining4 .ensures)
 
-sub-left : tie.Need-sub-left Inv-loop2 μ-loop2 Inv-loop μ-loop
-sub-left c = search needs
-
-loop-less : tie.Need-loop-less Inv-loop2 μ-loop2 Inv-loop μ-loop
-loop-less c = search needs
-
-loop-again : tie.Need-loop-again Inv-loop2 μ-loop2 Inv-loop μ-loop
+loop-again : tie.Need-loop-again Inv-loop2 μ-loop2 Inv-loop μ-loop Inv-loop3 μ-loop3
 unfolding withState
 loop-again c =
-    let h : c .before .loop2 .p ≡ 16 = omega arith in
-    task-turn _ _ (rising (c .before .before .before .before .before .before .before .before .before .before .loop .floor) (c .before .before .before .before .before .before .before .before .before .before .loop .table)) _ (c .before .before .before .before .before .before .before .before .before .before .loop .left) (c .before .before .before .before .before .before .before .entry-at .result .entry) _ (c .before .before .before .before .before .before .before .before .before .loop-test .taken) (part-read _ (c .before .before .before .before .before .before .before .entry-at .ensures) (c .before .before .before .before .before .place .given .1)) (rw h at (c .before .loop2 .inv .1)) ∙ c .before .before .before .before .before .before .before .before .before .before .loop .inv
+    let at = c .before .before .before .before .before .before .before .before .before in
+    let loop = at .before .loop in
+    let inner = c .before .before .before .loop2 in
+    let entry = c .before .before .before .before .before .before .entry-at in
+    let place = inner .place in
+    let number = entry .result .entry .number .0 in
+    let args = c .before .before .before .before .before .before .before .before .before .before .before .before .before .before .before .before .args in
+    let joins = memberStep (args .sheet .now) (args .read .head .opened) number in
+    let started = withState (loop .table) number (entry .result .entry .state) in
+    let members = gone-end joins place (inner .members) (inner .least) (inner .table) (omega (arith, c .before .before .loop2-test .left)) ∙ inner .inv .0 in
+    let all = ap (λ n. gone joins (entry .result .place) n 0 started) (c .before .before .before .before .remaining2 .ensures) ∙ gone-start joins (entry .result .place) (entry .result .entry .count) 0 started in
+    let step = ap (taskStep _ _ (rising (loop .floor) (loop .table))) (sym (c .before .before .before .before .before .before .before .next .ensures)) ∙ task-made _ _ (loop .floor) _ (loop .table) (entry .result .place) (entry .result .entry) place (inner .table) (entry .ensures .0) (members ∙ all) in (
+      rw (c .remaining4 .ensures) (gone-turn (taskStep _ _) (loop .place) place (loop .left) (loop .floor) (number + 1) _ (loop .table) (inner .table) (at .loop-test .taken) (loop .inv .1) step (λ next e. c .before .risen .ensures ∙ ap (λ p. risenOf p number) e)) ∙ loop .inv .0,
+      remaining-settled place _ (loop .left - 1) (c .remaining4 .ensures),
+      rw (c .before .risen .ensures, inner .inv .2) (free-risen _ _ (loop .floor) _ number (loop .table) (inner .table) place _ (entry .ensures .1) (loop .inv .2) step),
+    )
 
-refused-requires-2 : tie.Need-refused-requires-2 Inv-loop2 μ-loop2 Inv-loop μ-loop
-refused-requires-2 c κs = search needs
+ended-requires : tie.Need-ended-requires Inv-loop2 μ-loop2 Inv-loop μ-loop Inv-loop3 μ-loop3
+ended-requires c κs = search needs
 
-returns-2 : tie.Need-returns-2 Inv-loop2 μ-loop2 Inv-loop μ-loop
-unfolding entriesAt tasksAt each going
-returns-2 c = rw (← going-end (taskStep _ _) (c .before .before .before .loop .floor) (c .before .before .before .loop .table) (c .before .before .before .loop .at) (c .before .before .before .loop .left) (omega (arith, c .before .before .loop-test .left)) ∙ c .before .before .before .loop .inv, lt-ltb _ _ (c .before .if1 .taken)) (c .refused2 .ensures)
+enum-known-end : tie.Need-enum-known-end Inv-loop2 μ-loop2 Inv-loop μ-loop Inv-loop3 μ-loop3
+enum-known-end c = search needs
 
-returns-3 : tie.Need-returns-3 Inv-loop2 μ-loop2 Inv-loop μ-loop
-unfolding entriesAt tasksAt each going
-returns-3 c = rw (← going-end (taskStep _ _) (c .before .before .loop .floor) (c .before .before .loop .table) (c .before .before .loop .at) (c .before .before .loop .left) (omega (arith, c .before .loop-test .left)) ∙ c .before .before .loop .inv, le-ltb _ _ (c .if1 .left))
+enum-told : tie.Need-enum-told Inv-loop2 μ-loop2 Inv-loop μ-loop Inv-loop3 μ-loop3
+enum-told c = search needs
+
+returns : tie.Need-returns Inv-loop2 μ-loop2 Inv-loop μ-loop Inv-loop3 μ-loop3
+returns c =
+    let loop = c .before .before .before .before .loop in
+    let read = c .before .before .before .before .before .before .before .before .before .before .args .read in
+    ap handed (rw (← c .before .before .ended .ensures, c .enum-told .given .1) at (entries-made _ (read .head) (read .place) (loop .place) _ (loop .left) (loop .floor) (loop .table) (c .before .before .before .before .before .remaining .ensures) (omega (arith, c .before .before .before .loop-test .left)) (loop .inv .0)))
+
+loop3-holds : tie.Need-loop3-holds Inv-loop2 μ-loop2 Inv-loop μ-loop Inv-loop3 μ-loop3
+loop3-holds c = record { opened = refl; phases = refl; members = refl; tasks = c .before .before .before .before .before .before .before .before .loop .inv .2 }
+
+sub-floor : tie.Need-sub-floor Inv-loop2 μ-loop2 Inv-loop μ-loop Inv-loop3 μ-loop3
+sub-floor c = search needs
+
+mul-t47 : tie.Need-mul-t47 Inv-loop2 μ-loop2 Inv-loop μ-loop Inv-loop3 μ-loop3
+mul-t47 c = record { fits = omega (arith, c .before .loop3 .inv .tasks .high) }
+
+element-set-from-table-2 : tie.Need-element-set-from-table-2 Inv-loop2 μ-loop2 Inv-loop μ-loop Inv-loop3 μ-loop3
+element-set-from-table-2 c = omega (arith, c .before .loop3 .inv .tasks .high, c .before .loop3 .inv .tasks .long)
+
+loop3-less : tie.Need-loop3-less Inv-loop2 μ-loop2 Inv-loop μ-loop Inv-loop3 μ-loop3
+loop3-less c = search needs
+
+loop3-again : tie.Need-loop3-again Inv-loop2 μ-loop2 Inv-loop μ-loop Inv-loop3 μ-loop3
+loop3-again c = wipe-one _ _ (c .loop3-test .taken) (c .before .loop3 .inv)
+
+returns-2 : tie.Need-returns-2 Inv-loop2 μ-loop2 Inv-loop μ-loop Inv-loop3 μ-loop3
+returns-2 c =
+    let loop = c .before .before .before .before .before .before .before .before .before .before .loop in
+    let read = c .before .before .before .before .before .before .before .before .before .before .before .before .before .before .before .before .args .read in
+    let fresh = wiped-fresh _ _ (omega (arith, c .loop3-test .left)) (c .before .loop3 .inv) in
+    ap (hands _) fresh
+    ∙ ap handed (rw (← c .before .before .before .before .before .before .before .before .ended .ensures, c .before .before .before .before .before .before .end .given .1) at (entries-made _ (read .head) (read .place) (loop .place) _ (loop .left) (loop .floor) (loop .table) (c .before .before .before .before .before .before .before .before .before .before .before .remaining .ensures) (omega (arith, c .before .before .before .before .before .before .before .before .before .loop-test .left)) (loop .inv .0)))
 
 pub entries-spec : {M : Type 1} → statement M
 entries-spec =
@@ -130,32 +193,42 @@ entries-spec =
     μ-loop2
     Inv-loop
     μ-loop
+    Inv-loop3
+    μ-loop3
     no-tasks-requires
+    remaining-requires
     loop-holds
+    next-requires
     entry-at-requires
-    enum-known-place
-    enum-told
-    refusal-requires
-    refused-requires
-    returns
-    mul-t27
+    mul-t29
     element-set-from-table
+    remaining-requires-2
     loop2-holds
-    mul-phase
-    element-copy-out-phase
-    element-copy-out-member
+    next-requires-2
+    event-at-requires
     mul-i
     add-i
-    mul-phase-2
+    mul-phase
     element-set-from-phase
     element-write-table
-    add-p
+    add-least
+    sub-remaining
+    remaining-requires-3
     loop2-less
     loop2-again
-    add-floor
-    sub-left
+    risen-requires
+    sub-remaining-2
+    remaining-requires-4
     loop-less
     loop-again
-    refused-requires-2
-    returns-2
-    returns-3)
+    ended-requires
+    enum-known-end
+    enum-told
+    returns
+    loop3-holds
+    sub-floor
+    mul-t47
+    element-set-from-table-2
+    loop3-less
+    loop3-again
+    returns-2)

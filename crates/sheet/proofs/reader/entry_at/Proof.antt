@@ -1,5 +1,8 @@
 use borrow.Author.Needs.{needs}
+use native.Mathlib.Omega.{arith}
 use Rattle.sheet.specs.Fields.{entryAt}
+use Rattle.sheet.proofs.Onward.{number-read}
+use Rattle.sheet.proofs.Bounds.{rising-within}
 use Rattle.sheet.proofs.reader.entry_at.Statement.{statement}
 use Rattle.sheet.proofs.reader.entry_at.Tie as tie
 
@@ -20,14 +23,18 @@ no-entry-requires c κs = search needs
 
 returns : tie.Need-returns
 unfolding entryAt
-returns c = rw (c .no-entry .ensures, c .before .after .ensures, ← c .before .before .before .before .rising .ensures, c .before .before .enum-told .given .1)
+returns c =
+    (rw (c .no-entry .ensures .0, c .before .after .ensures, ← c .before .before .before .before .rising .ensures, c .before .before .enum-told .given .1), omega (arith, c .no-entry .ensures .1))
 
 entry-on-requires : tie.Need-entry-on-requires
 entry-on-requires c κs = search needs
 
 returns-2 : tie.Need-returns-2
 unfolding entryAt
-returns-2 c = rw (← c .before .before .before .before .rising .ensures, c .before .before .number .given .1) (c .entry-on .ensures)
+returns-2 c =
+    let read = c .before .before .before .before .rising .ensures in
+    let number = c .before .before .number .given .1 in
+    (rw (← read, number) (c .entry-on .ensures .0), omega (arith, c .entry-on .ensures .1, rising-within _ _ _ _ (number-read read number) .1))
 
 pub entry-at-spec : {M : Type 1} → statement M
 entry-at-spec =

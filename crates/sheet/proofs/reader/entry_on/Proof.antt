@@ -1,6 +1,6 @@
 use borrow.Author.Needs.{needs}
-use Rattle.sheet.specs.Fields.{entryOn, entryOf}
-use Rattle.sheet.proofs.Steps.{made}
+use native.Mathlib.Omega.{arith}
+use Rattle.sheet.specs.Fields.{entryOn}
 use Rattle.sheet.proofs.reader.entry_on.Statement.{statement}
 use Rattle.sheet.proofs.reader.entry_on.Tie as tie
 
@@ -18,14 +18,14 @@ no-entry-requires c κs = search needs
 
 returns : tie.Need-returns
 unfolding entryOn
-returns c = rw (← c .before .before .before .state-on .ensures, c .no-entry .ensures, c .before .enum-told .given .1)
+returns c = (rw (← c .before .before .before .state-on .ensures, c .no-entry .ensures .0, c .before .enum-told .given .1), omega (arith, c .no-entry .ensures .1))
 
-row-at-requires : tie.Need-row-at-requires
-row-at-requires c κs = search needs
+members-on-requires : tie.Need-members-on-requires
+members-on-requires c κs = search needs
 
 returns-2 : tie.Need-returns-2
 unfolding entryOn
-returns-2 c = rw (← c .before .before .before .before .before .state-on .ensures, c .before .before .before .place .given .1, ← c .before .row-at .ensures) (made (c .before .row-at .result .place) (c .before .row-at .result .row) (entryOf _ _))
+returns-2 c = (rw (← c .before .before .before .before .state-on .ensures, c .before .before .place .given .1) (c .members-on .ensures .0), c .members-on .ensures .1)
 
 pub entry-on-spec : {M : Type 1} → statement M
 entry-on-spec =
@@ -36,5 +36,5 @@ entry-on-spec =
     enum-told
     no-entry-requires
     returns
-    row-at-requires
+    members-on-requires
     returns-2)

@@ -6,7 +6,7 @@ use mathlib.Core.Bool.{false}
 use lib.ListN.{replicate}
 use Rattle.sheet.specs.Fields.{rising, each, openStep}
 use Rattle.sheet.proofs.Onward.{number-read, number-refused, going, going-turn, going-refused, going-end}
-use Rattle.sheet.proofs.Bounds.{rising-bound}
+use Rattle.sheet.proofs.Bounds.{rising-within}
 use Rattle.sheet.proofs.Steps.{open-read, open-refused}
 use Rattle.sheet.proofs.reader.opens_run.Statement.{statement}
 use Rattle.sheet.proofs.reader.opens_run.Tie as tie
@@ -38,10 +38,10 @@ returns : tie.Need-returns Inv-loop μ-loop
 returns c = rw (c .after .ensures, c .before .enum-told .given .1) (going-refused (openStep _) (c .before .before .before .before .before .loop .floor) (c .before .before .before .before .before .loop .opened) (c .before .before .before .before .before .loop .at) (c .before .before .before .before .before .loop .left) (c .before .before .before .before .loop-test .taken) (open-refused _ (rising (c .before .before .before .before .before .loop .floor) (c .before .before .before .before .before .loop .opened)) _ (number-refused (c .before .before .before .rising .ensures) (c .before .enum-told .given .1))) ∙ c .before .before .before .before .before .loop .inv)
 
 array-write-opened : tie.Need-array-write-opened Inv-loop μ-loop
-array-write-opened c = omega (arith, rising-bound _ _ _ _ (number-read (c .before .before .before .rising .ensures) (c .before .number .given .1)))
+array-write-opened c = omega (arith, rising-within _ _ _ _ (number-read (c .before .before .before .rising .ensures) (c .before .number .given .1)) .1)
 
 add-floor : tie.Need-add-floor Inv-loop μ-loop
-add-floor c = record { fits = omega (arith, rising-bound _ _ _ _ (number-read (c .before .before .before .rising .ensures) (c .before .number .given .1))) }
+add-floor c = record { fits = omega (arith, rising-within _ _ _ _ (number-read (c .before .before .before .rising .ensures) (c .before .number .given .1)) .1) }
 
 sub-left : tie.Need-sub-left Inv-loop μ-loop
 sub-left c = search needs

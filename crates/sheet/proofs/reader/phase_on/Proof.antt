@@ -26,14 +26,15 @@ no-event-requires c κs = search needs
 
 returns : tie.Need-returns
 unfolding phaseOn
-returns c = rw (c .no-event .ensures, c .before .after .ensures, ← c .before .before .before .before .read .ensures, c .before .before .enum-told .given .1)
+returns c =
+    (rw (c .no-event .ensures .0, c .before .after .ensures, ← c .before .before .before .before .read .ensures, c .before .before .enum-told .given .1), omega (arith, c .no-event .ensures .1))
 
 cast-t10 : tie.Need-cast-t10
 cast-t10 c = omega (arith, number-bound _ _ _ (number-read (c .before .before .before .read .ensures) (c .before .number .given .1)))
 
 returns-2 : tie.Need-returns-2
 unfolding phaseOn
-returns-2 c = rw (← c .before .before .before .read .ensures, c .before .number .given .1)
+returns-2 c = (rw (← c .before .before .before .read .ensures, c .before .number .given .1), omega arith)
 
 pub phase-on-spec : {M : Type 1} → statement M
 phase-on-spec =
