@@ -175,7 +175,8 @@ impl Table {
             return self.refused(refusal);
         }
         let phase = self.phase_at(task, phaser);
-        let higher = phase.0 + 1;
+        let kept = phase.0;
+        let higher = kept + 1;
         let next = self.with_entry(task, phaser, true, Phase(higher));
         next.called(DONE, higher as u64)
     }

@@ -24,10 +24,10 @@ phase-at-requires : tie.Need-phase-at-requires
 phase-at-requires c κs = search needs
 
 add-higher : tie.Need-add-higher
-add-higher c = omega (arith, arrive-below _ _ _ (passes (c .before .before)), c .before .phase-at .ensures)
+add-higher c = omega (arith, arrive-below _ _ _ (passes (c .before)), c .phase-at .ensures)
 
 with-entry-requires : tie.Need-with-entry-requires
-with-entry-requires c κs = arrive-below _ _ _ (passes (c .before .before)) .0
+with-entry-requires c κs = arrive-below _ _ _ (passes (c .before)) .0
 
 cast-called : tie.Need-cast-called
 cast-called c = search needs
@@ -37,7 +37,7 @@ called-requires c κs = search needs
 
 returns-2 : tie.Need-returns-2
 unfolding arriveOf ruled
-returns-2 c = simp (passes (c .before .before .before .before), c .called .ensures, c .before .with-entry .ensures, c .before .before .before .phase-at .ensures)
+returns-2 c = simp (passes (c .before .before .before), c .called .ensures, c .before .with-entry .ensures, c .before .before .phase-at .ensures)
 
 pub arrive-spec : {M : Type 1} → statement M
 arrive-spec =
