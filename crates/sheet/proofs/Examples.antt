@@ -1,8 +1,9 @@
--- Worked examples: document 01's sheets, and for each refusal a sheet of the fewest bytes that get it (that none is shorter is not proved).
+-- Worked examples: document 01's sheets, and for each refusal a sheet of the fewest bytes that get it.
 use Prim.Native.Nat.{ℕ}
 use mathlib.Core.Path.{_≡_, refl}
 use mathlib.Core.Bool.{true}
 use mathlib.Core.List.{List, [], _∷_}
+use lib.ListN.{length}
 use Rattle.hall.specs.Effects.{withState, withEntry}
 use Rattle.hall.specs.Table.{event, stateAt, openAt, memberAt, phaseAt, freshTable}
 use Rattle.hall.specs.declared.table.State.the-variants.{Blocked}
@@ -11,17 +12,21 @@ use Rattle.sheet.specs.Got.{refused}
 use Rattle.sheet.specs.Number.{plainAt, numberAt, risingAt, numberBytes}
 use Rattle.sheet.specs.Fields.{each, openStep, opensAt, countAt, listsAt, headAt, phaseOn, eventAt, blockedAt, stateOn, membersOn, entryOn, entryAt, memberStep, membersAt, taskStep, tasksAt, entriesAt, tableAt, sheetAt}
 use Rattle.sheet.specs.Written.{listed, sheetOf}
+use Rattle.sheet.proofs.Fewest.{fewest}
 
 -- the third byte's top bit comes before a needless group, and the end before both
 pub in-order : (plainAt (128 ∷ 128 ∷ 128 ∷ []) 0 ≡ refused 32) × (plainAt (128 ∷ 128 ∷ 0 ∷ []) 0 ≡ refused 31) × (plainAt (128 ∷ 128 ∷ []) 0 ≡ refused 30)
 unfolding plainAt
 in-order = (refl, refl, refl)
 
-pub refusals : (sheetAt [] .answer ≡ 30) × (sheetAt (128 ∷ 0 ∷ []) .answer ≡ 31) × (sheetAt (1 ∷ 17 ∷ []) .answer ≡ 32)
-    × (sheetAt (1 ∷ 2 ∷ 0 ∷ 0 ∷ []) .answer ≡ 33) × (sheetAt (0 ∷ []) .answer ≡ 34) × (sheetAt (1 ∷ 0 ∷ 0 ∷ 0 ∷ []) .answer ≡ 35)
-    × (sheetAt (1 ∷ 0 ∷ 1 ∷ 0 ∷ 1 ∷ 0 ∷ []) .answer ≡ 36)
+-- s gets the answer n, with as few bytes as any sheet that does: so each bound of `none-shorter` is reached
+abbrev pub Shortest : ℕ → List ℕ → Type 0
+Shortest n s = (sheetAt s .answer ≡ n) × (length s ≡ fewest n)
+
+pub refusals : Shortest 30 [] × Shortest 31 (128 ∷ 0 ∷ []) × Shortest 32 (1 ∷ 17 ∷ []) × Shortest 33 (1 ∷ 2 ∷ 0 ∷ 0 ∷ [])
+    × Shortest 34 (0 ∷ []) × Shortest 35 (1 ∷ 0 ∷ 0 ∷ 0 ∷ []) × Shortest 36 (1 ∷ 0 ∷ 1 ∷ 0 ∷ 1 ∷ 0 ∷ [])
 unfolding sheetAt tableAt headAt listsAt countAt opensAt openStep each entriesAt tasksAt taskStep entryAt entryOn stateOn blockedAt eventAt plainAt numberAt risingAt
-refusals = (refl, refl, refl, refl, refl, refl, refl)
+refusals = ((refl, refl), (refl, refl), (refl, refl), (refl, refl), (refl, refl), (refl, refl), (refl, refl))
 
 -- "The empty table is `01 00 00`"
 pub empty : (sheetAt (1 ∷ 0 ∷ 0 ∷ []) ≡ record { answer = 0; table = freshTable }) × (sheetOf freshTable ≡ 1 ∷ 0 ∷ 0 ∷ [])

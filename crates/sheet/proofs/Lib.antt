@@ -9,6 +9,7 @@ mod Gather
 pub mod Accepted
 pub mod Written
 pub mod Settled
+pub mod Fewest
 pub mod Bytes
 pub mod Theorems
 pub mod Examples

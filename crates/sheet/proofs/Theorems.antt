@@ -17,12 +17,13 @@ use Rattle.sheet.specs.Got.{Got, value, refused}
 use Rattle.sheet.specs.Number.{outcome}
 use Rattle.sheet.specs.Fields.{tableAt, handed, sheetAt}
 use Rattle.sheet.specs.Written.{sheetOf}
-use Rattle.sheet.proofs.Same.{Same, fine, none, same-holds}
+use Rattle.sheet.proofs.Same.{Agree, Same, fine, none, same-holds}
 use Rattle.sheet.proofs.Numbers.{Bytes}
 use Rattle.sheet.proofs.Accepted.{accepted}
 use Rattle.sheet.proofs.Written.{written}
 use Rattle.sheet.proofs.Bytes.{sheet-bytes}
 use Rattle.sheet.proofs.Settled.{longest, settles}
+use Rattle.sheet.proofs.Fewest.{fewest, enough}
 
 -- the answer is 0 and the table t
 abbrev pub Accepts : List ℕ → Table → Type 0
@@ -73,6 +74,15 @@ answers s b = go (accepted s b)
     go : {Q : Table → ℕ → Type 0} {g h : Got Table} → Same Q g h → T (eqb (handed g .answer) 0 || (leb 30 (handed g .answer) && leb (handed g .answer) 36))
     go (fine q) = tt
     go (none {n} r) = rw (ne-eqb n 0 (λ e. absurd (rw e at r))) r
+
+-- no sheet is shorter than the fewest bytes that get its answer; that so few do get it is `refusals` of Examples, and for 0 `empty`
+pub none-shorter : (s : List ℕ) → fewest (sheetAt s .answer) ≤ length s
+unfolding sheetAt
+none-shorter s = go (enough s)
+  where
+    go : {g h : Got Table} → Agree (λ n. fewest n ≤ length s) (λ t at. 3 ≤ length s) g h → fewest (handed g .answer) ≤ length s
+    go (fine q) = q
+    go (none r) = r
 
 -- "A sheet reader that refuses hands back a fresh table"
 pub refused-fresh : (s : List ℕ) → ¬ (sheetAt s .answer ≡ 0) → sheetAt s .table ≡ freshTable
