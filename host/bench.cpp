@@ -47,7 +47,7 @@ std::uint32_t judged(const Bytes &sheet) {
 template <std::size_t count>
 void time(const Call (&calls)[count], const Bytes &sheet, double (&least)[count]) {
     using Clock = std::chrono::steady_clock;
-    constexpr int rounds = 200, repeats = 50;
+    constexpr int rounds = 400, repeats = 50;
     std::fill(least, least + count, 1e18);
     for (int round = 0; round < rounds; ++round)
         for (std::size_t k = 0; k < count; ++k) {
@@ -171,7 +171,7 @@ int main() {
     double most = 0;
     std::size_t stack[3] = {};
     const char *const parts = "archive    -O2    -O3  ratios to them";
-    std::printf("nanoseconds a sheet, the least of 200 rounds | %-37s | %-37s | read and judged\n",
+    std::printf("nanoseconds a sheet, the least of 400 rounds | %-37s | %-37s | read and judged\n",
                 "read, one phase looked up", "read, refused with 35");
     std::printf("%-39sbytes | %-37s | %-37s | route 0 route 1    -O2    -O3\n", "", parts, parts);
     for (const Row &row : rows) {
