@@ -22,7 +22,7 @@ use Rattle.judge.specs.declared.verdict.Verdict.{Verdict}
 use Rattle.judge.proofs.One.{routes-agree}
 use Rattle.sets.proofs.Masks.{maskOf}
 use Rattle.judge.proofs.Twins.{rowsOf, namedIn, ringIn, roundIn, judgeOf, judgeOf-judged}
-use Rattle.sheet.specs.Fields.{each, openStep, opensAt, countAt, listsAt, headAt, phaseOn, eventAt, blockedAt, stateOn, membersOn, entryOn, entryAt, memberStep, membersAt, taskStep, tasksAt, entriesAt, tableAt, sheetAt}
+use Rattle.sheet.specs.Fields.{each, openStep, opensAt, countAt, listsAt, headAt, phaseOn, eventAt, blockedAt, stateOn, countOn, entryOn, entryAt, memberStep, membersAt, taskStep, tasksAt, entriesAt, tableAt, sheetAt}
 use Rattle.sheet.specs.Number.{plainAt, numberAt, risingAt}
 use Rattle.sheet.proofs.Examples.{p4}
 use Rattle.mollavisce.specs.Entry.{Entered}
@@ -46,7 +46,7 @@ computed sheet a d route before after answer l m x =
 
 -- "Sheet of P4 .. Strip: `03 00 00 00 02 02 00 01`, then thirty `FF`"
 pub p4-strip : Leaves p4 (3 ∷ 0 ∷ 0 ∷ 0 ∷ 2 ∷ 2 ∷ 0 ∷ 1 ∷ replicate 30 255)
-unfolding stripOf judgeOf soundOf entriesSound statesSound every stateAt openAt memberAt phaseAt freshTable withState withEntry namedIn namedOf clear rowsOf places maskOf impedesOf eventOf roundIn ringIn ringOf nextsOf ringFrom stepOf goOf lowOf onceOf trailingZeros size sheetAt tableAt headAt listsAt countAt opensAt openStep each entriesAt tasksAt taskStep entryAt entryOn stateOn blockedAt eventAt phaseOn membersOn membersAt memberStep plainAt numberAt risingAt
+unfolding stripOf judgeOf soundOf entriesSound statesSound every stateAt openAt memberAt phaseAt freshTable withState withEntry namedIn namedOf clear rowsOf places maskOf impedesOf eventOf roundIn ringIn ringOf nextsOf ringFrom stepOf goOf lowOf onceOf trailingZeros size sheetAt tableAt headAt listsAt countAt opensAt openStep each entriesAt tasksAt taskStep entryAt entryOn stateOn blockedAt eventAt phaseOn countOn membersAt memberStep plainAt numberAt risingAt
 p4-strip = computed p4 refl refl
 
 -- "Nobody named: all zeros, then 255s"

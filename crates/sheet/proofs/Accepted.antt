@@ -20,7 +20,7 @@ use Rattle.hall.proofs.Soundness.{awaitSound, getD-all}
 use Rattle.sheet.specs.declared.reader.Entry.{Entry}
 use Rattle.sheet.specs.declared.reader.Head.{Head}
 use Rattle.sheet.specs.Number.{numberBytes}
-use Rattle.sheet.specs.Fields.{Rising, rising, each, openStep, opensAt, countAt, listsAt, headAt, phaseOn, eventAt, blockedAt, stateOn, entryOf, membersOn, entryOn, entryAt, memberStep, membersAt, taskStep, tasksAt, entriesAt, tableAt}
+use Rattle.sheet.specs.Fields.{Rising, rising, each, openStep, opensAt, countAt, listsAt, headAt, phaseOn, eventAt, blockedAt, stateOn, entryOf, countOn, entryOn, entryAt, memberStep, membersAt, taskStep, tasksAt, entriesAt, tableAt}
 use Rattle.sheet.specs.Written.{listed, stateBytes, memberBytes, taskBytes, liveAt, sheetOf}
 use Rattle.sheet.proofs.Same.{Ok, fine, none, same-onward, same-times, same-if}
 use Rattle.sheet.proofs.Numbers.{Bytes, plain-ok, number-ok, rising-ok}
@@ -74,7 +74,7 @@ module _ (s : List ℕ) (eight : Bytes s) where
     pub bytes : take next s ≡ (take at s ++ (numberBytes (e .number .0) ++ stateBytes (e .state))) ++ numberBytes (e .count)
 
   entry-ok : (t : Table) (floor at : ℕ) → Ok (EntryRead t floor at) (entryAt s (t .opened) floor at)
-  unfolding entryAt entryOn membersOn
+  unfolding entryAt entryOn countOn
   entry-ok t floor at =
       same-onward (rising-ok s eight 31 floor at) (λ k second e.
       same-onward (state-ok t second) (λ x third f.

@@ -10,7 +10,7 @@ use Rattle.hall.specs.Effects.{withState}
 use Rattle.hall.specs.declared.table.Table.{Table}
 use Rattle.sheet.specs.Got.{Got, value, refused}
 use Rattle.sheet.specs.Number.{plainAt, numberAt, risingAt}
-use Rattle.sheet.specs.Fields.{Rising, rising, each, stateOn, entryOf, membersOn, entryOn, entryAt, memberStep, membersAt, taskStep}
+use Rattle.sheet.specs.Fields.{Rising, rising, each, stateOn, entryOf, countOn, entryOn, entryAt, memberStep, membersAt, taskStep}
 use Rattle.sheet.proofs.Onward.{came}
 
 -- where a test let something through, it held
@@ -40,7 +40,7 @@ rising-within s m floor at {v} e =
 
 -- each task's number is over that of the task before it
 pub task-rises : (s : List ℕ) (opened : List Bool) (r r′ : Rising Table) (at : ℕ) {next : ℕ} → taskStep s opened r at ≡ value r′ next → r .floor < r′ .floor
-unfolding taskStep entryAt entryOn membersOn membersAt
+unfolding taskStep entryAt entryOn countOn membersAt
 task-rises s opened r r′ at h =
     let step = came (entryAt s opened (r .floor) at) _ h in
     let number = came (risingAt s 31 (r .floor) at) _ (step .from) in

@@ -15,7 +15,7 @@ use Rattle.sheet.specs.declared.reader.Head.{Head}
 use Rattle.sheet.specs.Answers.{endsInside, needlessGroup, tooLarge, notRising, unknown, bytesAfter, notOpen}
 use Rattle.sheet.specs.Got.{Got}
 use Rattle.sheet.specs.Number.{further, groupsAt, plainAt, numberAt, risingAt}
-use Rattle.sheet.specs.Fields.{Rising, rising, each, openStep, opensAt, countAt, listsAt, headAt, phaseOn, eventAt, blockedAt, stateOn, membersOn, entryOn, entryAt, memberStep, membersAt, taskStep, noTasks, tasksAt, entriesAt, tableAt}
+use Rattle.sheet.specs.Fields.{Rising, rising, each, openStep, opensAt, countAt, listsAt, headAt, phaseOn, eventAt, blockedAt, stateOn, countOn, entryOn, entryAt, memberStep, membersAt, taskStep, noTasks, tasksAt, entriesAt, tableAt}
 use Rattle.sheet.proofs.Same.{Agree, fine, none, same-onward, same-times, same-if}
 
 -- the fewest bytes that get an answer: that of 0, acceptance, and those of 30 to 36 in their order
@@ -77,7 +77,7 @@ module _ (s : List ℕ) where
       (λ y. none {n = unknown} (omega (arith, e .0, e .1)))))
 
   entry : (opened : List Bool) (floor at : ℕ) → 3 ≤ at → Enough (Past 5) (entryAt s opened floor at)
-  unfolding entryAt entryOn membersOn
+  unfolding entryAt entryOn countOn
   entry opened floor at h =
       same-onward (rises 31 floor at (omega arith) (λ z. h)) (λ k second e.
       same-onward (state opened second (omega (arith, e .0))) (λ x third f.

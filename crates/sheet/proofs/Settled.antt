@@ -15,7 +15,7 @@ use Rattle.sheet.specs.declared.reader.Entry.{Entry}
 use Rattle.sheet.specs.declared.reader.Head.{Head}
 use Rattle.sheet.specs.Got.{value}
 use Rattle.sheet.specs.Number.{further, groupsAt, plainAt, numberAt, risingAt}
-use Rattle.sheet.specs.Fields.{rising, each, openStep, opensAt, countAt, listsAt, headAt, phaseOn, eventAt, blockedAt, stateOn, entryOf, membersOn, entryOn, entryAt, memberStep, membersAt, taskStep, noTasks, tasksAt, entriesAt, tableAt}
+use Rattle.sheet.specs.Fields.{rising, each, openStep, opensAt, countAt, listsAt, headAt, phaseOn, eventAt, blockedAt, stateOn, entryOf, countOn, entryOn, entryAt, memberStep, membersAt, taskStep, noTasks, tasksAt, entriesAt, tableAt}
 use Rattle.sheet.proofs.Same.{Same, fine, none, same-onward, same-times, same-if, same-equal, same-holds}
 use Rattle.sheet.proofs.Numbers.{Bytes, anyNumber, Read, plain-ok, number-ok, rising-ok, one-byte}
 
@@ -85,7 +85,7 @@ module _ (s s' : List ℕ) (eight : Bytes s) (n : ℕ) (same : (i : ℕ) → i <
 
   entry : (c : ℕ) (opened : List Bool) (floor at : ℕ) → at + (longestEntry + c) ≤ n →
       Same (λ e next. next + (e .count * longestEvent + c) ≤ n) (entryAt s opened floor at) (entryAt s' opened floor at)
-  unfolding entryAt entryOn membersOn
+  unfolding entryAt entryOn countOn
   entry c opened floor at h =
       same-onward (rises 31 floor at (omega arith)) (λ k second e.
       let z = one e (omega (arith, e .most)) in

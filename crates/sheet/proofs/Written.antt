@@ -18,7 +18,7 @@ use Rattle.hall.proofs.Places.{state-in, open-in, member-in, phase-in, open-bel
 use Rattle.hall.proofs.Soundness.{getD-all}
 use Rattle.sheet.specs.Got.{Got, value, refused, onward, times}
 use Rattle.sheet.specs.Number.{numberAt, numberBytes}
-use Rattle.sheet.specs.Fields.{Rising, rising, each, openStep, opensAt, countAt, listsAt, headAt, phaseOn, eventAt, blockedAt, stateOn, membersOn, entryOn, entryAt, memberStep, membersAt, taskStep, noTasks, tasksAt, entriesAt, tableAt}
+use Rattle.sheet.specs.Fields.{Rising, rising, each, openStep, opensAt, countAt, listsAt, headAt, phaseOn, eventAt, blockedAt, stateOn, countOn, entryOn, entryAt, memberStep, membersAt, taskStep, noTasks, tasksAt, entriesAt, tableAt}
 use Rattle.sheet.specs.Written.{count, gather, listed, stateBytes, memberBytes, taskBytes, liveAt, sheetOf}
 use Rattle.sheet.proofs.Numbers.{anyNumber, read-plain, read-number, read-rising}
 use Rattle.sheet.proofs.Gather.{count-le}
@@ -223,7 +223,7 @@ module _ (t : Table) (h : Sound t) (sh : Shaped t) (s : List ℕ) where
 
     read-task : (at floor : ℕ) (rest : List ℕ) → liveAt t k ≡ true → floor ≤ k → drop at s ≡ taskBytes t k ++ rest →
         taskStep s (t .opened) (rising floor (upTo k k 0)) at ≡ value (rising (k + 1) (upTo (suc k) (suc k) 0)) (at + length (taskBytes t k))
-    unfolding taskStep entryAt entryOn membersOn membersAt
+    unfolding taskStep entryAt entryOn countOn membersAt
     read-task at floor rest l f e =
         let n = numberBytes k in
         let x = stateBytes (stateAt t k) in

@@ -69,11 +69,11 @@ stateOn s opened at =
 abbrev pub entryOf : ℕ → State → ℕ → Entry
 entryOf k x n = record { number = record { 0 = k }; state = x; count = n }
 
-unfoldable pub membersOn : List ℕ → ℕ → State → ℕ → Got Entry
-membersOn s k x at = onward (numberAt s 16 at) (λ n next. value (entryOf k x n) next)
+unfoldable pub countOn : List ℕ → ℕ → State → ℕ → Got Entry
+countOn s k x at = onward (numberAt s 16 at) (λ n next. value (entryOf k x n) next)
 
 unfoldable pub entryOn : List ℕ → List Bool → ℕ → ℕ → Got Entry
-entryOn s opened k at = onward (stateOn s opened at) (membersOn s k)
+entryOn s opened k at = onward (stateOn s opened at) (countOn s k)
 
 unfoldable pub entryAt : List ℕ → List Bool → ℕ → ℕ → Got Entry
 entryAt s opened floor at = onward (risingAt s 31 floor at) (entryOn s opened)

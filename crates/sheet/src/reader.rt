@@ -6,7 +6,7 @@ ghost use Prim.Native.Nat.{_≤_};
 ghost use Rattle.sheet.specs.Got.{onward};
 ghost use Rattle.sheet.specs.Places.{placed, placeAfter, nextOf, remainingOf, risenOf, endOf};
 ghost use Rattle.sheet.specs.Fields.{each, openStep, opensAt, countAt, listsAt, headAt};
-ghost use Rattle.sheet.specs.Fields.{phaseOn, eventAt, blockedAt, stateOn, membersOn, entryOn, entryAt};
+ghost use Rattle.sheet.specs.Fields.{phaseOn, eventAt, blockedAt, stateOn, countOn, entryOn, entryAt};
 ghost use Rattle.sheet.specs.Fields.{noTasks, entriesAt, hands, handed, sheetAt};
 use crate::answers::BYTES_AFTER;
 use crate::answers::NOT_OPEN;
@@ -308,8 +308,8 @@ fn no_entry(place: Place) -> ReadEntry
 }
 
 // How many memberships, number and state being read.
-fn members_on(sheet: &[u8], number: TaskNo, state: State, at: usize) -> ReadEntry
-    ensures { λ r. ⌜ (placed (r .place) (r .entry) ≡ membersOn (now (sheet .entry)) (number .0) state at) × (r .entry .number .0 ≤ number .0) ⌝ }
+fn count_on(sheet: &[u8], number: TaskNo, state: State, at: usize) -> ReadEntry
+    ensures { λ r. ⌜ (placed (r .place) (r .entry) ≡ countOn (now (sheet .entry)) (number .0) state at) × (r .entry .number .0 ≤ number .0) ⌝ }
 {
     let read = number::read(sheet, 16, at);
     let Number::Value(count, next) = read else {
@@ -336,7 +336,7 @@ fn entry_on(sheet: &[u8], opened: &[bool; 16], number: TaskNo, at: usize) -> Rea
         return no_entry(place);
     };
     let state = stated.state;
-    members_on(sheet, number, state, next)
+    count_on(sheet, number, state, next)
 }
 
 fn entry_at(sheet: &[u8], opened: &[bool; 16], floor: u64, at: usize) -> ReadEntry

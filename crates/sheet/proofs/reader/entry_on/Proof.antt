@@ -20,12 +20,12 @@ returns : tie.Need-returns
 unfolding entryOn
 returns c = (rw (← c .before .before .before .state-on .ensures, c .no-entry .ensures .0, c .before .enum-told .given .1), omega (arith, c .no-entry .ensures .1))
 
-members-on-requires : tie.Need-members-on-requires
-members-on-requires c κs = search needs
+count-on-requires : tie.Need-count-on-requires
+count-on-requires c κs = search needs
 
 returns-2 : tie.Need-returns-2
 unfolding entryOn
-returns-2 c = (rw (← c .before .before .before .before .state-on .ensures, c .before .before .place .given .1) (c .members-on .ensures .0), c .members-on .ensures .1)
+returns-2 c = (rw (← c .before .before .before .before .state-on .ensures, c .before .before .place .given .1) (c .count-on .ensures .0), c .count-on .ensures .1)
 
 pub entry-on-spec : {M : Type 1} → statement M
 entry-on-spec =
@@ -36,5 +36,5 @@ entry-on-spec =
     enum-told
     no-entry-requires
     returns
-    members-on-requires
+    count-on-requires
     returns-2)

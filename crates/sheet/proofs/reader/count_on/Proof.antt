@@ -1,8 +1,8 @@
 use borrow.Author.Needs.{needs}
 use native.Mathlib.Omega.{arith}
-use Rattle.sheet.specs.Fields.{membersOn}
-use Rattle.sheet.proofs.reader.members_on.Statement.{statement}
-use Rattle.sheet.proofs.reader.members_on.Tie as tie
+use Rattle.sheet.specs.Fields.{countOn}
+use Rattle.sheet.proofs.reader.count_on.Statement.{statement}
+use Rattle.sheet.proofs.reader.count_on.Tie as tie
 
 read-requires : tie.Need-read-requires
 read-requires c κs = search needs
@@ -20,13 +20,13 @@ no-entry-requires : tie.Need-no-entry-requires
 no-entry-requires c κs = search needs
 
 returns : tie.Need-returns
-unfolding membersOn
+unfolding countOn
 returns c =
     (rw (c .no-entry .ensures .0, c .before .after .ensures, ← c .before .before .before .before .read .ensures, c .before .before .enum-told .given .1), omega (arith, c .no-entry .ensures .1))
 
 returns-2 : tie.Need-returns-2
-unfolding membersOn
+unfolding countOn
 returns-2 c = (rw (← c .before .before .before .read .ensures, c .before .read2 .given .1), omega arith)
 
-pub members-on-spec : {M : Type 1} → statement M
-members-on-spec = tie.close (tie.spec read-requires enum-known-read enum-told after-requires no-entry-requires returns returns-2)
+pub count-on-spec : {M : Type 1} → statement M
+count-on-spec = tie.close (tie.spec read-requires enum-known-read enum-told after-requires no-entry-requires returns returns-2)
