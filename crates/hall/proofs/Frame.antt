@@ -1,12 +1,11 @@
 -- What deadlock rests on stays through every call: a task whose event is impeded by a blocked one stays blocked on it, and what a blocked task
 -- impedes it goes on impeding.
 use mathlib.Core.Path.{_≡_, refl, ap, sym, _∙_}
-use mathlib.Core.Logic.{⊎-elim}
-use mathlib.Core.Bool.{Bool, true, false, _&&_, cond}
+use mathlib.Core.Bool.{Bool, true, false, cond}
 use Prim.Native.Nat.{ℕ, _+_, _<_}
 use native.Mathlib.Decide.{ℕ-discrete}
 use lib.Dec.{leb, eqb}
-use borrow.Author.Tests.{eqb-true, ne-eqb, leb-true, leb-false}
+use borrow.Author.Tests.{ne-eqb, leb-true, leb-false}
 use Rattle.deadlock.proofs.Theory.{Frame}
 use Rattle.hall.specs.Answers.{notReached}
 use Rattle.hall.specs.Calls.{refused, ruled, releaseOf, callOf}
@@ -24,9 +23,9 @@ use Rattle.hall.proofs.ByKind.{by-row, next-table}
 use Rattle.hall.proofs.Changes.{free-lowest, opens-task, ends-task, opens-phaser, closes-phaser, admits, leaves, arrives, blocks, releases}
 use Rattle.hall.proofs.Impeded.{blocked-once, impedes-iff, impedes-same, impeded-unreached}
 use Rattle.hall.proofs.Kept.{call-refused}
-use Rattle.hall.proofs.Lists.{clash, decide, and-left, and-right}
+use Rattle.hall.proofs.Lists.{clash}
 use Rattle.hall.proofs.Rows.{row-accepted, EndTask, end-task-row, release-row}
-use Rattle.hall.proofs.Written.{Reads, putAt, putRow}
+use Rattle.hall.proofs.Written.{Reads, putRow, put-at-other}
 
 -- ---- one task
 -- a blocked one is not the one whose state is not
@@ -69,20 +68,20 @@ module _ (t : Table) (z : Shaped t) (kind a p o : ℕ) where
       (λ h.
       let r = opens-phaser t z a h in
       let n = away (lowestUnopened t) (h .caller) in
-      still _ (r .members k q ∙ one (memberAt t) a (lowestUnopened t) true n) (r .phases k q ∙ one (phaseAt t) a (lowestUnopened t) 0 n))
+      still _ (r .members k q ∙ put-at-other (memberAt t) a (lowestUnopened t) true k q n) (r .phases k q ∙ put-at-other (phaseAt t) a (lowestUnopened t) 0 k q n))
       (λ h. still _ (closes-phaser t z p h .members k q) (closes-phaser t z p h .phases k q))
       (λ h.
       let r = admits t z a p o h in
       let n : (k ≡ o) × (q ≡ p) → ⊥ = λ x. clash (impedes-iff t k e .0 i .0) (ap (λ (j : ℕ). memberAt t j q) (x .0) ∙ (ap (memberAt t o) (x .1) ∙ h .fresh)) in
-      still _ (r .members k q ∙ one (memberAt t) o p true n) (r .phases k q ∙ one (phaseAt t) o p (phaseAt t a p) n))
+      still _ (r .members k q ∙ put-at-other (memberAt t) o p true k q n) (r .phases k q ∙ put-at-other (phaseAt t) o p (phaseAt t a p) k q n))
       (λ h.
       let r = leaves t z a p h in
       let n = away p (h .caller) in
-      still _ (r .members k q ∙ one (memberAt t) a p false n) (r .phases k q ∙ one (phaseAt t) a p 0 n))
+      still _ (r .members k q ∙ put-at-other (memberAt t) a p false k q n) (r .phases k q ∙ put-at-other (phaseAt t) a p 0 k q n))
       (λ h.
       let r = arrives t z a p h in
       let n = away p (h .caller) in
-      still _ (r .members k q ∙ one (memberAt t) a p true n) (r .phases k q ∙ one (phaseAt t) a p (phaseAt t a p + 1) n))
+      still _ (r .members k q ∙ put-at-other (memberAt t) a p true k q n) (r .phases k q ∙ put-at-other (phaseAt t) a p (phaseAt t a p + 1) k q n))
       (λ h. let r = blocks t z a (event p (phaseAt t a p)) (h .caller) in still _ (r .members k q) (r .phases k q))
       (λ h. let r = blocks t z a (event p o) (h .caller) in still _ (r .members k q) (r .phases k q))
       (λ h. still _ (releases t z a h .members k q) (releases t z a h .phases k q))
@@ -98,11 +97,6 @@ module _ (t : Table) (z : Shaped t) (kind a p o : ℕ) where
 
       row : {A : Type 0} (g : ℕ → ℕ → A) (v : A) → stateAt t a ≡ Running → putRow g a v k q ≡ g k q
       row g v r = rw (ne-eqb k a (apart t a k f (ap isBlocked r) b))
-
-      one : {A : Type 0} (g : ℕ → ℕ → A) (j l : ℕ) (v : A) → ((k ≡ j) × (q ≡ l) → ⊥) → putAt g j l v k q ≡ g k q
-      one g j l v n = ⊎-elim
-          (λ (x : eqb k j && eqb q l ≡ true). absurd (n (eqb-true k j (and-left (eqb k j) (eqb q l) x), eqb-true q l (and-right (eqb k j) (eqb q l) x))))
-          (λ (x : eqb k j && eqb q l ≡ false). rw x) (decide (eqb k j && eqb q l))
 
 -- ---- releases of impeded tasks
 module _ (t : Table) (k u : ℕ) (e : Event) (b : BlockedOn t k e) (i : Impedes t u e) where

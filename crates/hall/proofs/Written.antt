@@ -40,6 +40,16 @@ module _ {A : Type 0} (f : ℕ → A) (k : ℕ) (v : A) where
   pub put-other : (j : ℕ) → (j ≡ k → ⊥) → put f k v j ≡ f j
   put-other j n = rw (ne-eqb j k n)
 
+module _ {A : Type 0} (f : ℕ → ℕ → A) (k p : ℕ) (v : A) where
+  pub put-at-here : putAt f k p v k p ≡ v
+  put-at-here = rw (eq-eqb k k refl, eq-eqb p p refl)
+
+  pub put-at-other : (j q : ℕ) → ((j ≡ k) × (q ≡ p) → ⊥) → putAt f k p v j q ≡ f j q
+  put-at-other j q n =
+      ⊎-elim
+      (λ (x : eqb j k && eqb q p ≡ true). absurd (n (eqb-true j k (and-left (eqb j k) (eqb q p) x), eqb-true q p (and-right (eqb j k) (eqb q p) x))))
+      (λ (x : eqb j k && eqb q p ≡ false). rw x) (decide (eqb j k && eqb q p))
+
 -- a task that is not free has a number in range
 pub state-below : (t : Table) (k : ℕ) → (stateAt t k ≡ Free → ⊥) → k < 32
 unfolding stateAt

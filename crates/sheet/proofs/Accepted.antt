@@ -15,7 +15,7 @@ use Rattle.hall.specs.declared.table.Event.{Event}
 use Rattle.hall.specs.declared.table.State.{State}
 use Rattle.hall.specs.declared.table.Table.{Table}
 use Rattle.hall.proofs.Places.{open-in, open-below}
-use Rattle.hall.proofs.Written.{state-reads, entry-reads}
+use Rattle.hall.proofs.Written.{put-at-here, put-at-other, state-reads, entry-reads}
 use Rattle.hall.proofs.Soundness.{awaitSound, getD-all}
 use Rattle.sheet.specs.declared.reader.Entry.{Entry}
 use Rattle.sheet.specs.declared.reader.Head.{Head}
@@ -25,7 +25,7 @@ use Rattle.sheet.specs.Written.{listed, stateBytes, memberBytes, taskByt
 use Rattle.sheet.proofs.Same.{Ok, fine, none, same-onward, same-times, same-if}
 use Rattle.sheet.proofs.Numbers.{Bytes, plain-ok, number-ok, rising-ok}
 use Rattle.sheet.proofs.Gather.{Part, part-start, part-step, part-done, listed-same}
-use Rattle.sheet.proofs.Tables.{put-at-here, put-at-else, absent, Grown, grown-start, grown-more, none-reads, none-sound, none-shaped}
+use Rattle.sheet.proofs.Tables.{absent, Grown, grown-start, grown-more, none-reads, none-sound, none-shaped}
 
 module _ (s : List ℕ) (eight : Bytes s) where
   -- ---- a task's entry, where the phasers of t are open
@@ -104,9 +104,9 @@ module _ (s : List ℕ) (eight : Bytes s) where
         fine {a = rising (p + 1) (withEntry u k p true m)} (record {
           grown = grown-more k x t low u (j .grown) alive p m l (v .opens) (v .most);
           part = part-step s w n _ _ _ _ 16 left (r .floor) at next p (j .part) (v .least) l
-              (λ i d. a .members k i ∙ put-at-else (memberAt u) k p true i d)
+              (λ i d. a .members k i ∙ put-at-other (memberAt u) k p true k i (λ x. d (x .1)))
               (a .members k p ∙ put-at-here (memberAt u) k p true)
-              (λ i d hi. rw (a .phases k i ∙ put-at-else (phaseAt u) k p m i d))
+              (λ i d hi. rw (a .phases k i ∙ put-at-other (phaseAt u) k p m k i (λ x. d (x .1))))
               (v .bytes ∙ rw (a .phases k p ∙ put-at-here (phaseAt u) k p m));
         }))
 

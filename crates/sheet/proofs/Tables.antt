@@ -5,7 +5,7 @@ use mathlib.Core.List.{List}
 use mathlib.Core.Logic.{⊎-elim}
 use mathlib.Core.Bool.{Bool, true, false}
 use lib.ListN.{length}
-use borrow.Author.Tests.{eq-eqb, ne-eqb, le-leb}
+use borrow.Author.Tests.{le-leb}
 use Rattle.hall.specs.Table.{largestPhase, stateAt, openAt, memberAt, phaseAt, isLive, freshTable, Shaped}
 use Rattle.hall.specs.Effects.{withState, withEntry}
 use Rattle.hall.specs.Sound.{Sound}
@@ -13,23 +13,13 @@ use Rattle.hall.specs.declared.table.State.{State}
 use Rattle.hall.specs.declared.table.State.the-variants.{Free}
 use Rattle.hall.specs.declared.table.Table.{Table}
 use Rattle.hall.proofs.Lists.{clash, decide}
-use Rattle.hall.proofs.Written.{Reads, putAt, put-here, put-other, state-shaped, state-reads, entry-shaped, entry-reads}
+use Rattle.hall.proofs.Written.{Reads, put-here, put-other, put-at-other, state-shaped, state-reads, entry-shaped, entry-reads}
 use Rattle.hall.proofs.Soundness.{awaitSound, FineTable, sound-fine, fine-sound, sound-iff, fresh-shaped, fresh-reads, reads-fine, put-state, put-entry}
 use Rattle.sheet.specs.Fields.{noTasks}
 use Rattle.sheet.specs.Written.{memberBytes, taskBytes}
 use Rattle.sheet.proofs.Gather.{listed-same}
 
--- ---- what is read after a membership
-module _ {A : Type 0} (f : ℕ → ℕ → A) (k p : ℕ) (v : A) where
-  pub put-at-here : putAt f k p v k p ≡ v
-  put-at-here = rw (eq-eqb k k refl, eq-eqb p p refl)
-
-  pub put-at-else : (q : ℕ) → ¬ (q ≡ p) → putAt f k p v k q ≡ f k q
-  put-at-else q d = rw (eq-eqb k k refl, ne-eqb q p d)
-
-  put-at-other : (j q : ℕ) → ¬ (j ≡ k) → putAt f k p v j q ≡ f j q
-  put-at-other j q d = rw (ne-eqb j k d)
-
+-- ---- a task that stays as it was
 same-bytes : (t u : Table) (i : ℕ) → stateAt u i ≡ stateAt t i → ((p : ℕ) → memberAt u i p ≡ memberAt t i p) → ((p : ℕ) → phaseAt u i p ≡ phaseAt t i p) → taskBytes u i ≡ taskBytes t i
 same-bytes t u i e m n =
     rw (e, listed-same (memberAt u i) (memberAt t i) (memberBytes u i) (memberBytes t i) 16 (λ p l. m p) (λ p l x. rw (n p)))
@@ -85,8 +75,8 @@ module _ (k : ℕ) (x : State) (t : Table) (low : k < 32) where
         state = r .states k ∙ g .state;
         states = λ i d. r .states i ∙ g .states i d;
         others = λ i d.
-            same-bytes u v i (r .states i) (λ q. r .members i q ∙ put-at-other (memberAt u) k p true i q d)
-            (λ q. r .phases i q ∙ put-at-other (phaseAt u) k p n i q d)
+            same-bytes u v i (r .states i) (λ q. r .members i q ∙ put-at-other (memberAt u) k p true i q (λ x. d (x .0)))
+            (λ q. r .phases i q ∙ put-at-other (phaseAt u) k p n i q (λ x. d (x .0)))
             ∙ g .others i d;
       }
 
