@@ -1,4 +1,5 @@
 use borrow.Author.Needs.{needs}
+use native.Mathlib.Omega.{arith}
 use borrow.Author.Tests.{lt-ltb, le-ltb}
 use Rattle.sheet.specs.Number.{risingAt}
 use Rattle.sheet.proofs.number.rising.Statement.{statement}
@@ -19,11 +20,11 @@ returns c = rw (← c .before .before .read .ensures, c .enum-told .given .1)
 
 returns-2 : tie.Need-returns-2
 unfolding risingAt
-returns-2 c = rw (← c .before .before .before .before .read .ensures, c .before .before .number .given .1, lt-ltb _ _ (c .if1 .taken))
+returns-2 c = rw (← c .before .before .before .before .read .ensures, c .before .before .number .given .1, lt-ltb (c .before .before .number .given .0 .0) (c .before .before .before .before .before .before .args .floor) (omega (arith, c .if1 .taken)))
 
 returns-3 : tie.Need-returns-3
 unfolding risingAt
-returns-3 c = rw (← c .before .before .before .before .read .ensures, c .before .before .number .given .1, le-ltb _ _ (c .if1 .left))
+returns-3 c = rw (← c .before .before .before .before .read .ensures, c .before .before .number .given .1, le-ltb (c .before .before .number .given .0 .0) (c .before .before .before .before .before .before .args .floor) (omega (arith, c .if1 .left)))
 
 pub rising-spec : {M : Type 1} → statement M
 rising-spec =

@@ -175,7 +175,7 @@ loop3-less : tie.Need-loop3-less Inv-loop2 μ-loop2 Inv-loop μ-loop Inv-loop3 �
 loop3-less c = search needs
 
 loop3-again : tie.Need-loop3-again Inv-loop2 μ-loop2 Inv-loop μ-loop Inv-loop3 μ-loop3
-loop3-again c = wipe-one _ _ (c .loop3-test .taken) (c .before .loop3 .inv)
+loop3-again c = wipe-one _ _ (omega (arith, c .loop3-test .taken)) (c .before .loop3 .inv)
 
 returns-2 : tie.Need-returns-2 Inv-loop2 μ-loop2 Inv-loop μ-loop Inv-loop3 μ-loop3
 returns-2 c =
