@@ -10,9 +10,10 @@ use Rattle.sheet.specs.Fields.{sheetAt}
 abbrev pub noPhase : ℕ
 noPhase = 65536
 
--- what a live member keeps; no phase of anyone else, nor where the sheet is refused, since its table is fresh
+-- "It keeps 512 phases": the one that a live member keeps; no phase of anyone else
 abbrev pub keptIn : Table → ℕ → ℕ → ℕ
 keptIn t k p = cond (isLive (stateAt t k) && memberAt t k p) (phaseAt t k p) noPhase
 
+-- in the table that a sheet holds
 unfoldable pub keptOn : List ℕ → ℕ → ℕ → ℕ
 keptOn s k p = keptIn (sheetAt s .table) k p
