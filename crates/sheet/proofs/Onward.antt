@@ -30,13 +30,6 @@ module _ {g : Got ℕ} {number : Number} (e : outcome number ≡ g) where
   pub number-refused : {n : ℕ} → number ≡ NoNumber n → g ≡ refused n
   number-refused h = sym e ∙ ap outcome h
 
-module _ {A : Type 0} {g : Got A} {place : Place} (a : A) (e : placed place a ≡ g) where
-  pub part-read : {next : ℕ} → place ≡ At next → g ≡ value a next
-  part-read h = sym e ∙ ap (λ p. placed p a) h
-
-  pub part-refused : {n : ℕ} → place ≡ Refused n → g ≡ refused n
-  part-refused h = sym e ∙ ap (λ p. placed p a) h
-
 -- ---- a rising list of which so many are left to read, from here on
 unfoldable pub going : {A : Type 0} → (Rising A → ℕ → Got (Rising A)) → ℕ → ℕ → A → ℕ → Got A
 going step left floor a at = onward (times step left (rising floor a) at) (λ r next. value (r .sofar) next)
