@@ -1,10 +1,10 @@
-use lib.Bits.{and-le-l}
+use lib.Bits.{and-le-l, and-le-r}
 use Rattle.sets.proofs.Members.{less-iff}
 use Rattle.sets.proofs.less.Statement.{statement}
 use Rattle.sets.proofs.less.Tie as tie
 
 sub-result : tie.Need-sub-result
-sub-result c = and-le-l (c .args .a) (c .args .b)
+sub-result c = search (and-le-l, and-le-r)
 
 returns : tie.Need-returns
 returns c k = less-iff (c .args .a) (c .args .b) k
