@@ -2,9 +2,8 @@
 use crate::table::Event;
 use crate::table::Phase;
 use crate::table::Table;
-use crate::table::TaskNo;
 ghost use mathlib.Core.Path.{_≡_};
-ghost use Rattle.hall.specs.Waiting.{behind, impedesOf, reachedOf};
+ghost use Rattle.hall.specs.Waiting.{behind, reachedOf};
 
 // "A member with a phase less than n impedes event (p, n). Equal does not impede."
 pub fn behind(member: bool, phase: Phase, awaited: Phase) -> bool
@@ -14,18 +13,6 @@ pub fn behind(member: bool, phase: Phase, awaited: Phase) -> bool
 }
 
 impl Table {
-    pub fn impedes(self, task: TaskNo, event: Event) -> bool
-        ensures { λ r. ⌜ r ≡ impedesOf self (task .0) event ⌝ }
-    {
-        let phaser = event.phaser;
-        let awaited = event.phase;
-        behind(
-            self.member_at(task, phaser),
-            self.phase_at(task, phaser),
-            awaited,
-        )
-    }
-
     // Whether nobody impedes an event.
     pub fn reached(self, event: Event) -> bool
         ensures { λ r. ⌜ r ≡ reachedOf self event ⌝ }

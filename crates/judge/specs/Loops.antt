@@ -16,7 +16,6 @@ use Rattle.hall.specs.declared.table.State.the-variants.{Free, Running, Blocked
 use Rattle.hall.specs.declared.table.Table.{Table}
 use Rattle.judge.specs.Routes.{TaskRoute, EventRoute}
 use Rattle.judge.specs.Verdict.{ImpedesTask}
-use Rattle.judge.specs.declared.verdict.Verdict.{Verdict}
 
 -- the event that a task awaits; where it awaits none, one that nobody impedes
 unfoldable pub eventOf : State → Event
@@ -52,11 +51,3 @@ pub record NextsOf (rows next : List ℕ) : Type 0 where
 pub record ByRoute (t : Table) (route named : ℕ) : Type 0 where
   pub tasks : route ≡ 0 → TaskRoute t named
   pub events : (route ≡ 0 → ⊥) → EventRoute t named
-
--- two verdicts, field by field
-pub record Alike (a b : Verdict) : Type 0 where
-  pub ring : (i : ℕ) → i < 32 → getD (a .ring) i 0 ≡ getD (b .ring) i 0
-  pub answer : a .answer ≡ b .answer
-  pub named : a .named ≡ b .named
-  pub count : a .count ≡ b .count
-  pub length : a .length ≡ b .length

@@ -1,5 +1,4 @@
 // The judge over a table (document 01, 'Stuck' and 'The hall sheet'): two routes, one ring, a verdict.
-pub mod agreement;
 mod edges;
 pub mod event_route;
 pub mod judge;

@@ -107,7 +107,7 @@ power-iff t k = (λ h. go h (ℕ-discrete k t), λ e. rw e (bit-power t))
     go h (yes e) = e
     go h (no e) = let z = bit-power-other t k e in absurd (omega arith)
 
--- ---- what `put` and `take` promise, by name
+-- ---- r is m with t put into it; r is m with t taken out, which is what `take` promises
 abbrev pub Put : ℕ → ℕ → ℕ → Type 0
 Put m t r = (k : ℕ) → Has r k ↔ (Has m k ⊎ ((k < 32) × (k ≡ t)))
 

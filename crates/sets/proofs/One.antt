@@ -1,4 +1,4 @@
--- Each promise fixes its result: two results that both meet it are equal. Of those that say who is in the set (only, common, less, put, take), one law says
+-- Each promise fixes its result: two results that both meet it are equal. Of those that say who is in the set (only, common, less, take), one law says
 -- it, `same-members` of Widths.
 use mathlib.Core.Path.{_≡_, refl, sym, _∙_}
 use mathlib.Core.Bool.{Bool, true, false}

@@ -1,6 +1,6 @@
 ghost use mathlib.Core.Path.{_≡_};
 ghost use mathlib.Core.Bool.{true};
-ghost use mathlib.Core.Logic.{_↔_, _⊎_};
+ghost use mathlib.Core.Logic.{_↔_};
 ghost use Prim.Native.Nat.{ℕ, _<_};
 ghost use Rattle.sets.specs.Set.{Has, size, LowestOf};
 
@@ -34,13 +34,6 @@ pub fn less(a: u32, b: u32) -> u32
     ensures { λ r. ⌜ ((k : ℕ) → Has r k ↔ (Has a k × (Has b k → ⊥))) ⌝ }
 {
     a - (a & b)
-}
-
-// The set with the task put into it.
-pub fn put(set: u32, task: usize) -> u32
-    ensures { λ r. ⌜ ((k : ℕ) → Has r k ↔ (Has set k ⊎ ((k < 32) × (k ≡ task)))) ⌝ }
-{
-    set | only(task)
 }
 
 // The set with the task taken out of it.
