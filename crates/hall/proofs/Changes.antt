@@ -1,20 +1,21 @@
 -- What an accepted call of each kind changes, over all that a table says, so that nothing else changes.
 use mathlib.Core.Path.{_≡_, refl, ap, sym, _∙_, subst}
-use mathlib.Core.Logic.{_⊎_, inl, inr}
-use mathlib.Core.Bool.{Bool, true, false, not, cond}
+use mathlib.Core.Logic.{_⊎_, inl, inr, _↔_}
+use mathlib.Core.Bool.{Bool, true, false, _&&_, not, cond}
 use mathlib.Core.List.{List}
 use Prim.Native.Nat.{ℕ, _+_, _<_}
 use native.Mathlib.Omega.{arith}
 use lib.Dec.{ltb}
 use lib.ListN.{getD, set}
 use lib.Seq.{set-set, set-getD}
-use borrow.Author.Tests.{not-true, not-false}
+use borrow.Author.Tests.{eq-eqb, ne-eqb, not-true, not-false}
 use Rattle.hall.specs.Answers.{done, waitPassed, nowBlocked}
 use Rattle.hall.specs.Calls.{called, callOf, waits}
 use Rattle.hall.specs.Effects.{withState, withEntry, withOpen, withoutEntries}
+use Rattle.hall.specs.Every.{every}
 use Rattle.hall.specs.Rules.{put}
 use Rattle.hall.specs.Table.{stateAt, openAt, memberAt, phaseAt, isFree, isLive, isRunning, event, freeTask, Shaped}
-use Rattle.hall.specs.Tests.{Test, lowestFree, lowestUnopened}
+use Rattle.hall.specs.Tests.{Test, lowestFree, lowestUnopened, waitsAt, unused}
 use Rattle.hall.specs.Waiting.{reachedOf, BlockedOn, Impedes}
 use Rattle.hall.specs.declared.calls.Called.{Called}
 use Rattle.hall.specs.declared.table.Event.{Event}
@@ -22,8 +23,8 @@ use Rattle.hall.specs.declared.table.State.{State}
 use Rattle.hall.specs.declared.table.State.the-variants.{Free, Running, Blocked}
 use Rattle.hall.specs.declared.table.Table.{Table}
 use Rattle.hall.specs.declared.table.Task.{Task}
-use Rattle.hall.proofs.Impeded.{impedes-same, unreached-impeded}
-use Rattle.hall.proofs.Lists.{clash, lowest-holds, lowest-lower}
+use Rattle.hall.proofs.Impeded.{member-below, impedes-same, unreached-impeded}
+use Rattle.hall.proofs.Lists.{clash, and-left, and-right, every-at, every-all, lowest-holds, lowest-lower}
 use Rattle.hall.proofs.Places.{live-below, open-below}
 use Rattle.hall.proofs.Rows.{Row, row-accepted, row-effect, OpenTask, open-task-row, EndTask, end-task-row, OpenPhaser, open-phaser-row, ClosePhaser, close-phaser-row, Admit, admit-row, Member, leave-row, Arrive, arrive-row, waits-cases, wait-row, wait-at-row, Release, release-row}
 use Rattle.hall.proofs.Written.{Reads, putAt, putRow, put-here, state-reads, entry-reads, open-shaped, open-reads, row-shaped, row-reads}
@@ -49,6 +50,33 @@ running-below t k e = live-below t k (ap isLive e)
 
 pub blocked-below : (t : Table) (k : ℕ) (e : Event) → BlockedOn t k e → k < 32
 blocked-below t k e b = live-below t k (ap isLive b)
+
+-- ---- nobody is a member of a phaser, and nobody is blocked on it
+pub unused-iff : (t : Table) (p : ℕ)
+    → (unused t p ≡ true) ↔ (((k : ℕ) → memberAt t k p ≡ false) × ((k : ℕ) (e : Event) → BlockedOn t k e → e .phaser .0 ≡ p → ⊥))
+unfolding unused
+unused-iff t p = (λ e. (members e, waiters e), λ h. every-all (free t p) 32 (λ k l. rw (h .0 k) (ap not (nobody (stateAt t k) (h .1 k)))))
+  where
+    free : Table → ℕ → ℕ → Bool
+    free t p k = not (memberAt t k p) && not (waitsAt (stateAt t k) p)
+
+    members : every (free t p) 32 ≡ true → (k : ℕ) → memberAt t k p ≡ false
+    members e k = go (memberAt t k p) refl
+      where
+        go : (b : Bool) → memberAt t k p ≡ b → b ≡ false
+        go true m =
+            absurd (clash m (not-true _ (and-left (not (memberAt t k p)) (not (waitsAt (stateAt t k) p)) (every-at (free t p) 32 k e (member-below t k p m .0)))))
+        go false m = refl
+
+    waiters : every (free t p) 32 ≡ true → (k : ℕ) (e : Event) → BlockedOn t k e → e .phaser .0 ≡ p → ⊥
+    waiters e k v b q =
+        clash (ap (λ (s : State). waitsAt s p) b ∙ eq-eqb (v .phaser .0) p q)
+        (not-true _ (and-right (not (memberAt t k p)) (not (waitsAt (stateAt t k) p)) (every-at (free t p) 32 k e (blocked-below t k v b))))
+
+    nobody : (s : State) → ((e : Event) → s ≡ Blocked e → e .phaser .0 ≡ p → ⊥) → waitsAt s p ≡ false
+    nobody Free h = refl
+    nobody Running h = refl
+    nobody (Blocked e) h = ne-eqb (e .phaser .0) p (h e refl)
 
 -- ---- what each effect does to a shaped table
 module _ (t : Table) (z : Shaped t) where

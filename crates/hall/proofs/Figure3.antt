@@ -2,50 +2,51 @@
 -- range, phases up to 65,535, the lowest free number) or narrows (a target that runs), and nothing else.
 use mathlib.Core.Path.{_≡_, refl, ap, sym, _∙_, subst}
 use mathlib.Core.Logic.{inl, inr, _↔_}
-use mathlib.Core.Bool.{Bool, true, false}
+use mathlib.Core.Bool.{Bool, true, false, not}
 use mathlib.Core.Option.{some, none, Option·some-injective}
 use Prim.Native.Nat.{ℕ, _+_, _<_, _≤_}
 use native.Mathlib.Omega.{arith}
-use lib.Dec.{ltb, lit<}
-use borrow.Author.Tests.{ltb-true, ltb-false}
+use lib.Dec.{lit<}
+use Rattle.hall.specs.Additions.{Runs, LowestFree, LowestUnopened, Unused, without, Behind, BehindOwn}
 use Rattle.hall.specs.Answers.{waitPassed, nowBlocked}
 use Rattle.hall.specs.Calls.{callOf}
 use Rattle.hall.specs.Rules.{put, Phaser, PhaserMap, Await, Add, Drop, Adv, Upd, NewP, Reg, Dereg, Arrv, AwaitN, AwaitOwn, phaserOf, phasersOf}
 use Rattle.hall.specs.Sound.{Sound, soundOf}
-use Rattle.hall.specs.Table.{largestPhase, stateAt, openAt, memberAt, phaseAt, isLive, isBlocked, event, Shaped}
-use Rattle.hall.specs.Tests.{lowestUnopened}
+use Rattle.hall.specs.Table.{largestPhase, stateAt, openAt, memberAt, phaseAt, isFree, isLive, isBlocked, event, Shaped}
+use Rattle.hall.specs.Tests.{lowestFree, lowestUnopened}
 use Rattle.hall.specs.Waiting.{reachedOf, BlockedOn}
 use Rattle.hall.specs.declared.calls.Called.{Called}
 use Rattle.hall.specs.declared.table.Event.{Event}
 use Rattle.hall.specs.declared.table.State.{State}
 use Rattle.hall.specs.declared.table.State.the-variants.{Free, Running, Blocked}
 use Rattle.hall.specs.declared.table.Table.{Table}
-use Rattle.hall.proofs.Accepted.{open-phaser-accepted, admit-accepted, leave-accepted, arrive-accepted, wait-accepted, wait-at-accepted, release-accepted}
-use Rattle.hall.proofs.ByKind.{next-table}
-use Rattle.hall.proofs.Changes.{Waited, blocks, releases, unopened-lowest, open-phaser-changes, admit-changes, leave-changes, arrive-changes, wait-changes, wait-at-changes}
-use Rattle.hall.proofs.Lists.{clash}
-use Rattle.hall.proofs.Maps.{phaser-there, phaser-opens, phaser-absent, member-there, member-is, member-absent, phasers-same, phasers-moved, phasers-opened, reached-await}
+use Rattle.hall.proofs.Accepted.{open-task-accepted, end-task-accepted, open-phaser-accepted, close-phaser-accepted, admit-accepted, leave-accepted, arrive-accepted, wait-accepted, wait-at-accepted, release-accepted}
+use Rattle.hall.proofs.Changes.{Waited, unused-iff, free-lowest, unopened-lowest, open-task-changes, end-task-changes, open-phaser-changes, close-phaser-changes, admit-changes, leave-changes, arrive-changes, wait-changes, wait-at-changes, release-changes}
+use Rattle.hall.proofs.Lists.{clash, lowest-is}
+use Rattle.hall.proofs.Maps.{phaser-there, phaser-opens, phaser-absent, member-there, member-is, member-absent, phasers-same, phasers-moved, phasers-opened, phasers-left, phasers-closed, reached-await}
 use Rattle.hall.proofs.Soundness.{sound-iff}
 
--- what every call by a task asks
-pub record Caller (t : Table) (a : ℕ) : Type 0 where
-  pub sound : Sound t
-  pub runs : stateAt t a ≡ Running
+-- ---- the numbers that opening gives
+lowest-unopened : (t : Table) (q : ℕ) → openAt t q ≡ false → LowestUnopened t q → lowestUnopened t ≡ q
+unfolding lowestUnopened
+lowest-unopened t q e h = lowest-is (λ p. not (openAt t p)) 16 q (h .0) (ap not e) (λ r l. ap not (h .1 r l))
 
--- the lowest number with no open phaser, of those in range
-pub record Lowest (t : Table) (q : ℕ) : Type 0 where
-  pub below : q < 16
-  pub lower : (r : ℕ) → r < q → openAt t r ≡ true
-
-lowest-unopened : (t : Table) (q : ℕ) → openAt t q ≡ false → Lowest t q → lowestUnopened t ≡ q
-lowest-unopened t q e h = go (ltb (lowestUnopened t) q) (ltb q (lowestUnopened t)) refl refl
+lowest-free : (t : Table) (k : ℕ) → LowestFree t k → lowestFree t ≡ k
+unfolding lowestFree
+lowest-free t k h = lowest-is (λ j. isFree (stateAt t j)) 32 k (h .0) (ap isFree (h .1)) (λ j l. other (stateAt t j) (h .2 j l))
   where
-    go : (b c : Bool) → ltb (lowestUnopened t) q ≡ b → ltb q (lowestUnopened t) ≡ c → lowestUnopened t ≡ q
-    go true c x y =
-        let l = ltb-true (lowestUnopened t) q x in
-        absurd (clash (h .lower (lowestUnopened t) l) (unopened-lowest t .0 (let b = h .below in omega arith)))
-    go false true x y = absurd (clash (unopened-lowest t .1 q (ltb-true q (lowestUnopened t) y)) e)
-    go false false x y = let l = ltb-false (lowestUnopened t) q x in let m = ltb-false q (lowestUnopened t) y in omega arith
+    other : (s : State) → (s ≡ Free → ⊥) → isFree s ≡ false
+    other Free n = absurd (n refl)
+    other Running n = refl
+    other (Blocked e) n = refl
+
+free-is : (t : Table) → lowestFree t < 32 → LowestFree t (lowestFree t)
+free-is t l = (l, is (stateAt t (lowestFree t)) (free-lowest t .0 l), λ j m e. clash (ap isFree e) (free-lowest t .1 j m))
+  where
+    is : (s : State) → isFree s ≡ true → s ≡ Free
+    is Free e = refl
+    is Running e = absurd (clash e refl)
+    is (Blocked x) e = absurd (clash e refl)
 
 -- ---- a rule gives one next map
 upd-once : (φ : Phaser → Phaser → Type 0) → ((P Q R : Phaser) → φ P Q → φ P R → Q ≡ R) → (p : ℕ) (M N O : PhaserMap)
@@ -69,28 +70,14 @@ reg-once a b p M N O x y =
     let n = Option·some-injective (x .phase) (y .phase) (sym (x .caller) ∙ (ap (λ (P : Phaser). P a) q ∙ y .caller)) in
     upd-once (Add b (x .phase)) (λ P Q R v w. v .next ∙ sym (w .next)) p M N O (x .does) (subst (λ (k : ℕ). Upd (Add b k) p M O) (sym n) (y .does))
 
--- [await-n] but for await(P, n): the phaser is there, and some member is behind
-pub record AwaitsN (p n : ℕ) (M : PhaserMap) : Type 0 where
-  pub phaser : Phaser
-  pub there : M p ≡ some phaser
-  pub behind : Await phaser n → ⊥
-
--- [await] but for the same
-pub record AwaitsOwn (t p : ℕ) (M : PhaserMap) : Type 0 where
-  pub phaser : Phaser
-  pub there : M p ≡ some phaser
-  pub phase : ℕ
-  pub caller : phaser t ≡ some phase
-  pub waits : AwaitsN p phase M
-
 -- ---- calls
-module _ (t : Table) (z : Shaped t) (a p : ℕ) where
-  -- an accepted call, and the map that it leaves
-  abbrev Steps : Called → PhaserMap → Type 0
-  Steps c M′ = (c .answer < 10) × (phasersOf (c .table) ≡ M′)
+-- an accepted call, and the map that it leaves
+abbrev pub Steps : Called → PhaserMap → Type 0
+Steps c M′ = (c .answer < 10) × (phasersOf (c .table) ≡ M′)
 
-  caller : soundOf t ≡ true → stateAt t a ≡ Running → Caller t a
-  caller s r = record { sound = sound-iff t .0 s; runs = r }
+module _ (t : Table) (z : Shaped t) (a p : ℕ) where
+  caller : soundOf t ≡ true → stateAt t a ≡ Running → Runs t a
+  caller s r = (sound-iff t .0 s, r)
 
   -- the task's phaser in the map is the table's
   member : {P : Phaser} {n : ℕ} → phasersOf t p ≡ some P → P a ≡ some n → (openAt t p ≡ true) × (memberAt t a p ≡ true) × (phaseAt t a p ≡ n)
@@ -111,17 +98,17 @@ module _ (t : Table) (z : Shaped t) (a p : ℕ) where
         next = phasers-moved t (callOf t 5 a p o .table) a p false 0 (h .opens) (leave-changes t z a p o l .reads);
       }
 
-  pub leave-exact : (o : ℕ) (M′ : PhaserMap) → Steps (callOf t 5 a p o) M′ ↔ (Caller t a × Dereg a p (phasersOf t) M′)
+  pub leave-exact : (o : ℕ) (M′ : PhaserMap) → Steps (callOf t 5 a p o) M′ ↔ (Runs t a × Dereg a p (phasersOf t) M′)
   leave-exact o M′ = (there, back)
     where
-      there : Steps (callOf t 5 a p o) M′ → Caller t a × Dereg a p (phasersOf t) M′
+      there : Steps (callOf t 5 a p o) M′ → Runs t a × Dereg a p (phasersOf t) M′
       there x = let h = leave-accepted t a p o .0 (x .0) in (caller (h .sound) (h .caller), subst (Dereg a p (phasersOf t)) (x .1) (leave-moves o (x .0)))
 
-      back : Caller t a × Dereg a p (phasersOf t) M′ → Steps (callOf t 5 a p o) M′
+      back : Runs t a × Dereg a p (phasersOf t) M′ → Steps (callOf t 5 a p o) M′
       back x =
           let r = x .1 in
           let m = member (r .there) (r .does .there) in
-          let l = leave-accepted t a p o .1 (record { sound = sound-iff t .1 (x .0 .sound); caller = x .0 .runs; opens = m .0; member = m .1 }) in
+          let l = leave-accepted t a p o .1 (record { sound = sound-iff t .1 (x .0 .0); caller = x .0 .1; opens = m .0; member = m .1 }) in
           (l, upd-once (Drop a) (drop-once a) p (phasersOf t) _ M′ (leave-moves o l) r)
 
   -- 6: arrive is [arrv], up to phase 65,535
@@ -136,19 +123,19 @@ module _ (t : Table) (z : Shaped t) (a p : ℕ) where
         next = phasers-moved t (callOf t 6 a p o .table) a p true (phaseAt t a p + 1) (h .opens) (arrive-changes t z a p o l .reads);
       }
 
-  pub arrive-exact : (o : ℕ) (M′ : PhaserMap) → Steps (callOf t 6 a p o) M′ ↔ (Caller t a × Arrv a p (phasersOf t) M′ × (phaseAt t a p < largestPhase))
+  pub arrive-exact : (o : ℕ) (M′ : PhaserMap) → Steps (callOf t 6 a p o) M′ ↔ (Runs t a × Arrv a p (phasersOf t) M′ × (phaseAt t a p < largestPhase))
   arrive-exact o M′ = (there, back)
     where
-      there : Steps (callOf t 6 a p o) M′ → Caller t a × Arrv a p (phasersOf t) M′ × (phaseAt t a p < largestPhase)
+      there : Steps (callOf t 6 a p o) M′ → Runs t a × Arrv a p (phasersOf t) M′ × (phaseAt t a p < largestPhase)
       there x =
           let h = arrive-accepted t a p o .0 (x .0) in
           (caller (h .sound) (h .caller), subst (Arrv a p (phasersOf t)) (x .1) (arrive-moves o (x .0)), h .below)
 
-      back : Caller t a × Arrv a p (phasersOf t) M′ × (phaseAt t a p < largestPhase) → Steps (callOf t 6 a p o) M′
+      back : Runs t a × Arrv a p (phasersOf t) M′ × (phaseAt t a p < largestPhase) → Steps (callOf t 6 a p o) M′
       back x =
           let r = x .1 in
           let m = member (r .there) (r .does .there) in
-          let l = arrive-accepted t a p o .1 (record { sound = sound-iff t .1 (x .0 .sound); caller = x .0 .runs; opens = m .0; member = m .1; below = x .2 }) in
+          let l = arrive-accepted t a p o .1 (record { sound = sound-iff t .1 (x .0 .0); caller = x .0 .1; opens = m .0; member = m .1; below = x .2 }) in
           (l, upd-once (Adv a) (adv-once a) p (phasersOf t) _ M′ (arrive-moves o l) r)
 
   -- 4: admit is [reg]; the narrowing is that the target runs
@@ -178,7 +165,7 @@ module _ (t : Table) (z : Shaped t) (a p : ℕ) where
         };
       }
 
-  pub admit-exact : (b : ℕ) (M′ : PhaserMap) → Steps (callOf t 4 a p b) M′ ↔ (Caller t a × Reg a b p (phasersOf t) M′ × (stateAt t b ≡ Running))
+  pub admit-exact : (b : ℕ) (M′ : PhaserMap) → Steps (callOf t 4 a p b) M′ ↔ (Runs t a × Reg a b p (phasersOf t) M′ × (stateAt t b ≡ Running))
   admit-exact b M′ = (there, back)
     where
       awake : (s : State) → isLive s ≡ true → isBlocked s ≡ false → s ≡ Running
@@ -186,19 +173,19 @@ module _ (t : Table) (z : Shaped t) (a p : ℕ) where
       awake Running x y = refl
       awake (Blocked e) x y = absurd (clash refl y)
 
-      there : Steps (callOf t 4 a p b) M′ → Caller t a × Reg a b p (phasersOf t) M′ × (stateAt t b ≡ Running)
+      there : Steps (callOf t 4 a p b) M′ → Runs t a × Reg a b p (phasersOf t) M′ × (stateAt t b ≡ Running)
       there x =
           let h = admit-accepted t a p b .0 (x .0) in
           (caller (h .sound) (h .caller), subst (Reg a b p (phasersOf t)) (x .1) (admit-moves b (x .0)), awake (stateAt t b) (h .live) (h .awake))
 
-      back : Caller t a × Reg a b p (phasersOf t) M′ × (stateAt t b ≡ Running) → Steps (callOf t 4 a p b) M′
+      back : Runs t a × Reg a b p (phasersOf t) M′ × (stateAt t b ≡ Running) → Steps (callOf t 4 a p b) M′
       back x =
           let r = x .1 in
           let m = member (r .there) (r .caller) in
           let q = phaser-opens t p (r .does .phaser) (r .does .there) .1 in
           let l = admit-accepted t a p b .1 (record {
-            sound = sound-iff t .1 (x .0 .sound);
-            caller = x .0 .runs;
+            sound = sound-iff t .1 (x .0 .0);
+            caller = x .0 .1;
             opens = m .0;
             member = m .1;
             live = ap isLive (x .2);
@@ -224,24 +211,24 @@ module _ (t : Table) (z : Shaped t) (a p : ℕ) where
       empty s q e j false m = refl
 
   pub open-phaser-exact : (o q : ℕ) (M′ : PhaserMap)
-      → (Steps (callOf t 2 a p o) M′ × (callOf t 2 a p o .value ≡ q)) ↔ (Caller t a × NewP a q (phasersOf t) M′ × Lowest t q)
+      → (Steps (callOf t 2 a p o) M′ × (callOf t 2 a p o .value ≡ q)) ↔ (Runs t a × NewP a q (phasersOf t) M′ × LowestUnopened t q)
   open-phaser-exact o q M′ = (there, back)
     where
-      there : Steps (callOf t 2 a p o) M′ × (callOf t 2 a p o .value ≡ q) → Caller t a × NewP a q (phasersOf t) M′ × Lowest t q
+      there : Steps (callOf t 2 a p o) M′ × (callOf t 2 a p o .value ≡ q) → Runs t a × NewP a q (phasersOf t) M′ × LowestUnopened t q
       there x =
           let h = open-phaser-accepted t a p o .0 (x .0 .0) in
           let e = sym (open-phaser-changes t z a p o (x .0 .0) .values) ∙ x .1 in
           let r = subst (NewP a (lowestUnopened t) (phasersOf t)) (x .0 .1) (open-moves o (x .0 .0)) in (
             caller (h .sound) (h .caller),
             subst (λ (k : ℕ). NewP a k (phasersOf t) M′) e r,
-            subst (Lowest t) e (record { below = h .unopened; lower = unopened-lowest t .1 }),
+            subst (LowestUnopened t) e (h .unopened, unopened-lowest t .1),
           )
 
-      back : Caller t a × NewP a q (phasersOf t) M′ × Lowest t q → Steps (callOf t 2 a p o) M′ × (callOf t 2 a p o .value ≡ q)
+      back : Runs t a × NewP a q (phasersOf t) M′ × LowestUnopened t q → Steps (callOf t 2 a p o) M′ × (callOf t 2 a p o .value ≡ q)
       back x =
           let e = lowest-unopened t q (phaser-absent t q .0 (x .1 .fresh)) (x .2) in
-          let low : lowestUnopened t < 16 = omega (arith, e, x .2 .below) in
-          let l = open-phaser-accepted t a p o .1 (record { sound = sound-iff t .1 (x .0 .sound); caller = x .0 .runs; unopened = low }) in
+          let low : lowestUnopened t < 16 = omega (arith, e, x .2 .0) in
+          let l = open-phaser-accepted t a p o .1 (record { sound = sound-iff t .1 (x .0 .0); caller = x .0 .1; unopened = low }) in
           let n = open-moves o l .next ∙ (ap (λ (k : ℕ). put (phasersOf t) k (some (put (λ u. none) a (some 0)))) e ∙ sym (x .1 .next)) in
           ((l, n), open-phaser-changes t z a p o l .values ∙ e)
 
@@ -253,14 +240,14 @@ module _ (t : Table) (z : Shaped t) (a p : ℕ) where
       λ w. reached-await t p n .1 (subst (λ (P : Phaser). Await P n) (sym (phaser-opens t p (w .phaser) (w .there) .1)) (w .all)),
     )
 
-    rule-unreached : openAt t p ≡ true → (reachedOf t (event p n) ≡ false) ↔ AwaitsN p n (phasersOf t)
+    rule-unreached : openAt t p ≡ true → (reachedOf t (event p n) ≡ false) ↔ Behind (phasersOf t) p n
     rule-unreached o = (
-      λ r. record { phaser = phaserOf t p; there = phaser-there t p o; behind = λ w. clash (reached-await t p n .1 w) r },
+      λ r. (phaserOf t p, phaser-there t p o, λ w. clash (reached-await t p n .1 w) r),
       λ w. go (reachedOf t (event p n)) refl w,
     )
       where
-        go : (b : Bool) → reachedOf t (event p n) ≡ b → AwaitsN p n (phasersOf t) → b ≡ false
-        go true r w = absurd (w .behind (subst (λ (P : Phaser). Await P n) (phaser-opens t p (w .phaser) (w .there) .1) (reached-await t p n .0 r)))
+        go : (b : Bool) → reachedOf t (event p n) ≡ b → Behind (phasersOf t) p n → b ≡ false
+        go true r w = absurd (w .2 (subst (λ (P : Phaser). Await P n) (phaser-opens t p (w .0) (w .1) .1) (reached-await t p n .0 r)))
         go false r w = refl
 
     waited-passed : {c : Called} → Waited t z a p n c → (c .answer ≡ waitPassed) ↔ (reachedOf t (event p n) ≡ true)
@@ -277,32 +264,32 @@ module _ (t : Table) (z : Shaped t) (a p : ℕ) where
     wait-at = callOf t 8 a p n
 
     wait-at-by : (m : ℕ) (Q R : Type 0) → m < 10 → (wait-at .answer < 10 → (wait-at .answer ≡ m) ↔ Q) → (openAt t p ≡ true → Q ↔ R) → (R → openAt t p ≡ true)
-        → (wait-at .answer ≡ m) ↔ (Caller t a × R × (n ≤ largestPhase))
+        → (wait-at .answer ≡ m) ↔ (Runs t a × R × (n ≤ largestPhase))
     wait-at-by m Q R k f g i = (there, back)
       where
-        there : wait-at .answer ≡ m → Caller t a × R × (n ≤ largestPhase)
+        there : wait-at .answer ≡ m → Runs t a × R × (n ≤ largestPhase)
         there e =
             let l : wait-at .answer < 10 = omega (arith, e) in
             let h = wait-at-accepted t a p n .0 l in
             (caller (h .sound) (h .caller), g (h .opens) .0 (f l .0 e), h .fits)
 
-        back : Caller t a × R × (n ≤ largestPhase) → wait-at .answer ≡ m
+        back : Runs t a × R × (n ≤ largestPhase) → wait-at .answer ≡ m
         back x =
             let o = i (x .1) in
-            let l = wait-at-accepted t a p n .1 (record { sound = sound-iff t .1 (x .0 .sound); caller = x .0 .runs; opens = o; fits = x .2 }) in
+            let l = wait-at-accepted t a p n .1 (record { sound = sound-iff t .1 (x .0 .0); caller = x .0 .1; opens = o; fits = x .2 }) in
             f l .1 (g o .1 (x .1))
 
-    pub wait-at-passes : (wait-at .answer ≡ waitPassed) ↔ (Caller t a × AwaitN p n (phasersOf t) × (n ≤ largestPhase))
+    pub wait-at-passes : (wait-at .answer ≡ waitPassed) ↔ (Runs t a × AwaitN p n (phasersOf t) × (n ≤ largestPhase))
     wait-at-passes =
         wait-at-by waitPassed (reachedOf t (event p n) ≡ true) (AwaitN p n (phasersOf t)) (lit< tt)
         (λ l. waited-passed n (wait-at-changes t z a p n l)) (rule-reached n)
         (λ w. phaser-opens t p (w .phaser) (w .there) .0)
 
-    pub wait-at-blocks : (wait-at .answer ≡ nowBlocked) ↔ (Caller t a × AwaitsN p n (phasersOf t) × (n ≤ largestPhase))
+    pub wait-at-blocks : (wait-at .answer ≡ nowBlocked) ↔ (Runs t a × Behind (phasersOf t) p n × (n ≤ largestPhase))
     wait-at-blocks =
-        wait-at-by nowBlocked (reachedOf t (event p n) ≡ false) (AwaitsN p n (phasersOf t)) (lit< tt)
+        wait-at-by nowBlocked (reachedOf t (event p n) ≡ false) (Behind (phasersOf t) p n) (lit< tt)
         (λ l. waited-blocked n (wait-at-changes t z a p n l)) (rule-unreached n)
-        (λ w. phaser-opens t p (w .phaser) (w .there) .0)
+        (λ w. phaser-opens t p (w .0) (w .1) .0)
 
   -- 7: wait at own phase is [await]
   module _ (o : ℕ) where
@@ -310,22 +297,22 @@ module _ (t : Table) (z : Shaped t) (a p : ℕ) where
     wait = callOf t 7 a p o
 
     wait-by : (m : ℕ) (Q R : Type 0) → m < 10 → (wait .answer < 10 → (wait .answer ≡ m) ↔ Q) → (openAt t p ≡ true → memberAt t a p ≡ true → Q ↔ R)
-        → (R → (openAt t p ≡ true) × (memberAt t a p ≡ true)) → (wait .answer ≡ m) ↔ (Caller t a × R)
+        → (R → (openAt t p ≡ true) × (memberAt t a p ≡ true)) → (wait .answer ≡ m) ↔ (Runs t a × R)
     wait-by m Q R k f g i = (there, back)
       where
-        there : wait .answer ≡ m → Caller t a × R
+        there : wait .answer ≡ m → Runs t a × R
         there e =
             let l : wait .answer < 10 = omega (arith, e) in
             let h = wait-accepted t a p o .0 l in
             (caller (h .sound) (h .caller), g (h .opens) (h .member) .0 (f l .0 e))
 
-        back : Caller t a × R → wait .answer ≡ m
+        back : Runs t a × R → wait .answer ≡ m
         back x =
             let w = i (x .1) in
-            let l = wait-accepted t a p o .1 (record { sound = sound-iff t .1 (x .0 .sound); caller = x .0 .runs; opens = w .0; member = w .1 }) in
+            let l = wait-accepted t a p o .1 (record { sound = sound-iff t .1 (x .0 .0); caller = x .0 .1; opens = w .0; member = w .1 }) in
             f l .1 (g (w .0) (w .1) .1 (x .1))
 
-    pub wait-passes : (wait .answer ≡ waitPassed) ↔ (Caller t a × AwaitOwn a p (phasersOf t))
+    pub wait-passes : (wait .answer ≡ waitPassed) ↔ (Runs t a × AwaitOwn a p (phasersOf t))
     wait-passes =
         wait-by waitPassed (reachedOf t (event p (phaseAt t a p)) ≡ true) (AwaitOwn a p (phasersOf t)) (lit< tt)
         (λ l. waited-passed (phaseAt t a p) (wait-changes t z a p o l))
@@ -341,54 +328,91 @@ module _ (t : Table) (z : Shaped t) (a p : ℕ) where
         ))
         (λ w. let x = member (w .there) (w .caller) in (x .0, x .1))
 
-    pub wait-blocks : (wait .answer ≡ nowBlocked) ↔ (Caller t a × AwaitsOwn a p (phasersOf t))
+    pub wait-blocks : (wait .answer ≡ nowBlocked) ↔ (Runs t a × BehindOwn (phasersOf t) a p)
     wait-blocks =
-        wait-by nowBlocked (reachedOf t (event p (phaseAt t a p)) ≡ false) (AwaitsOwn a p (phasersOf t)) (lit< tt)
+        wait-by nowBlocked (reachedOf t (event p (phaseAt t a p)) ≡ false) (BehindOwn (phasersOf t) a p) (lit< tt)
         (λ l. waited-blocked (phaseAt t a p) (wait-changes t z a p o l))
         (λ e m. (
-          λ r. record {
-            phaser = phaserOf t p;
-            there = phaser-there t p e;
-            phase = phaseAt t a p;
-            caller = member-there t p a m;
-            waits = rule-unreached (phaseAt t a p) e .0 r;
-          },
-          λ w. rule-unreached (phaseAt t a p) e .1 (subst (λ (n : ℕ). AwaitsN p n (phasersOf t)) (sym (member (w .there) (w .caller) .2)) (w .waits)),
+          λ r. (phaserOf t p, phaseAt t a p, phaser-there t p e, member-there t p a m, rule-unreached (phaseAt t a p) e .0 r),
+          λ w. rule-unreached (phaseAt t a p) e .1 (subst (λ (n : ℕ). Behind (phasersOf t) p n) (sym (member (w .2) (w .3) .2)) (w .4)),
         ))
-        (λ w. let x = member (w .there) (w .caller) in (x .0, x .1))
+        (λ w. let x = member (w .2) (w .3) in (x .0, x .1))
 
--- ---- release
+-- ---- what document 01 adds
 module _ (t : Table) (z : Shaped t) (a p o : ℕ) where
-  -- a blocked task whose rule [await-n] can step now
-  pub record Wakes : Type 0 where
-    pub sound : Sound t
-    pub event : Event
-    pub blocked : BlockedOn t a event
-    pub rule : AwaitN (event .phaser .0) (event .phase .0) (phasersOf t)
-
   -- 9: release is [await-n] for a task that is blocked at it
-  pub release-exact : (callOf t 9 a p o .answer < 10) ↔ Wakes
-  release-exact = (
-    λ l.
-        let h = release-accepted t a p o .0 l in
+  pub release-exact : (M′ : PhaserMap) → Steps (callOf t 9 a p o) M′
+      ↔ (Sound t × ((e : Event) × BlockedOn t a e × AwaitN (e .phaser .0) (e .phase .0) (phasersOf t)) × (M′ ≡ phasersOf t))
+  release-exact M′ = (
+    λ x.
+        let h = release-accepted t a p o .0 (x .0) in
         let s = sound-iff t .0 (h .sound) in
-        record { sound = s; event = h .event; blocked = h .blocked; rule = rule (h .event) (s .open-awaited a (h .event) (h .blocked)) .0 (h .reached) },
-    λ w.
-        release-accepted t a p o .1 (record {
-          sound = sound-iff t .1 (w .sound);
-          event = w .event;
-          blocked = w .blocked;
-          reached = rule (w .event) (w .sound .open-awaited a (w .event) (w .blocked)) .1 (w .rule);
-        }),
+        (s, (h .event, h .blocked, rule (h .event) (s .open-awaited a (h .event) (h .blocked)) .0 (h .reached)), sym (x .1) ∙ same (x .0)),
+    λ x.
+        let e = x .1 .0 in
+        let l = release-accepted t a p o .1 (record {
+          sound = sound-iff t .1 (x .0);
+          event = e;
+          blocked = x .1 .1;
+          reached = rule e (x .0 .open-awaited a e (x .1 .1)) .1 (x .1 .2);
+        }) in
+        (l, same l ∙ sym (x .2)),
   )
     where
       rule : (e : Event) → openAt t (e .phaser .0) ≡ true → (reachedOf t e ≡ true) ↔ AwaitN (e .phaser .0) (e .phase .0) (phasersOf t)
       rule e = rule-reached t z a (e .phaser .0) (e .phase .0)
 
-  -- "M stays": waits and releases leave the map, whatever they answer
-  pub phasers-stay : (kind : ℕ) → 7 ≤ kind → phasersOf (callOf t kind a p o .table) ≡ phasersOf t
-  phasers-stay kind l =
-      next-table (λ n u. 7 ≤ n → phasersOf u ≡ phasersOf t) t (λ n x. refl) kind a p o (λ h x. absurd (omega (arith, x))) (λ h x. absurd (omega (arith, x)))
-      (λ h x. absurd (omega (arith, x))) (λ h x. absurd (omega (arith, x))) (λ h x. absurd (omega (arith, x))) (λ h x. absurd (omega (arith, x)))
-      (λ h x. absurd (omega (arith, x))) (λ h x. phasers-same t _ (blocks t z a (event p (phaseAt t a p)) (h .caller)))
-      (λ h x. phasers-same t _ (blocks t z a (event p o) (h .caller))) (λ h x. phasers-same t _ (releases t z a h)) l
+      same : callOf t 9 a p o .answer < 10 → phasersOf (callOf t 9 a p o .table) ≡ phasersOf t
+      same l = phasers-same t _ (release-changes t z a p o l .reads)
+
+  -- 0: a task is opened at the lowest free number
+  pub open-task-exact : (q : ℕ) (M′ : PhaserMap)
+      → (Steps (callOf t 0 a p o) M′ × (callOf t 0 a p o .value ≡ q)) ↔ (Sound t × LowestFree t q × (M′ ≡ phasersOf t))
+  open-task-exact q M′ = (there, back)
+    where
+      same : callOf t 0 a p o .answer < 10 → phasersOf (callOf t 0 a p o .table) ≡ phasersOf t
+      same l = phasers-same t _ (open-task-changes t z a p o l .reads)
+
+      there : Steps (callOf t 0 a p o) M′ × (callOf t 0 a p o .value ≡ q) → Sound t × LowestFree t q × (M′ ≡ phasersOf t)
+      there x =
+          let l = x .0 .0 in
+          let h = open-task-accepted t a p o .0 l in
+          let e = sym (open-task-changes t z a p o l .values) ∙ x .1 in
+          (sound-iff t .0 (h .sound), subst (LowestFree t) e (free-is t (h .free)), sym (x .0 .1) ∙ same l)
+
+      back : Sound t × LowestFree t q × (M′ ≡ phasersOf t) → Steps (callOf t 0 a p o) M′ × (callOf t 0 a p o .value ≡ q)
+      back x =
+          let e = lowest-free t q (x .1) in
+          let free : lowestFree t < 32 = omega (arith, e, x .1 .0) in
+          let l = open-task-accepted t a p o .1 (record { sound = sound-iff t .1 (x .0); free = free }) in
+          ((l, same l ∙ sym (x .2)), open-task-changes t z a p o l .values ∙ e)
+
+  -- 1: a task that ends leaves every phaser
+  pub end-task-exact : (M′ : PhaserMap) → Steps (callOf t 1 a p o) M′ ↔ (Runs t a × (M′ ≡ without a (phasersOf t)))
+  end-task-exact M′ = (
+    λ x.
+        let h = end-task-accepted t a p o .0 (x .0) in
+        ((sound-iff t .0 (h .sound), h .caller), sym (x .1) ∙ ends (x .0)),
+    λ x.
+        let l = end-task-accepted t a p o .1 (record { sound = sound-iff t .1 (x .0 .0); caller = x .0 .1 }) in
+        (l, ends l ∙ sym (x .1)),
+  )
+    where
+      ends : callOf t 1 a p o .answer < 10 → phasersOf (callOf t 1 a p o .table) ≡ without a (phasersOf t)
+      ends l = phasers-left t _ a (end-task-changes t z a p o l .reads)
+
+  -- 3: a phaser that nobody uses is closed
+  pub close-phaser-exact : (M′ : PhaserMap) → Steps (callOf t 3 a p o) M′ ↔ (Sound t × Unused t p × (M′ ≡ put (phasersOf t) p none))
+  close-phaser-exact M′ = (
+    λ x.
+        let h = close-phaser-accepted t a p o .0 (x .0) in
+        let u = unused-iff t p .0 (h .nobody) in
+        (sound-iff t .0 (h .sound), (h .opens, u .0, u .1), sym (x .1) ∙ closes (x .0)),
+    λ x.
+        let u = x .1 in
+        let l = close-phaser-accepted t a p o .1 (record { sound = sound-iff t .1 (x .0); opens = u .0; nobody = unused-iff t p .1 (u .1, u .2) }) in
+        (l, closes l ∙ sym (x .2)),
+  )
+    where
+      closes : callOf t 3 a p o .answer < 10 → phasersOf (callOf t 3 a p o .table) ≡ put (phasersOf t) p none
+      closes l = phasers-closed t _ p (close-phaser-changes t z a p o l .reads)

@@ -1,24 +1,25 @@
 -- What every call keeps: a refusal leaves the table, the arrays keep their lengths, a sound table stays sound; and which numbers each kind answers.
 use mathlib.Core.Path.{_≡_, refl, ap}
-use mathlib.Core.Bool.{Bool, true, false, _&&_, not}
+use mathlib.Core.Bool.{Bool, true, false}
 use mathlib.Core.List.{List}
-use Prim.Native.Nat.{ℕ, _+_, _<_, _≤_}
+use Prim.Native.Nat.{ℕ, _+_, _≤_}
 use native.Mathlib.Omega.{arith}
-use borrow.Author.Tests.{eq-eqb, not-true, le-leb}
+use borrow.Author.Tests.{eqb-true, eq-eqb, le-leb}
 use Rattle.hall.specs.Calls.{refused, callOf}
 use Rattle.hall.specs.Effects.{withOpen, withoutEntries}
 use Rattle.hall.specs.Sound.{Sound, soundOf}
 use Rattle.hall.specs.Rules.{put}
 use Rattle.hall.specs.Table.{largestPhase, stateAt, openAt, memberAt, phaseAt, isLive, event, Shaped}
 use Rattle.hall.specs.Tests.{Test, lowestFree, lowestUnopened, waitsAt, unused}
+use Rattle.hall.specs.Waiting.{BlockedOn}
 use Rattle.hall.specs.declared.calls.Called.{Called}
+use Rattle.hall.specs.declared.table.Event.{Event}
 use Rattle.hall.specs.declared.table.State.{State}
 use Rattle.hall.specs.declared.table.State.the-variants.{Free, Running, Blocked}
 use Rattle.hall.specs.declared.table.Table.{Table}
 use Rattle.hall.proofs.ByKind.{kinds, next-table}
-use Rattle.hall.proofs.Changes.{blocked-below, opens-task, ends-task, opens-phaser, closes-phaser, admits, leaves, arrives, blocks, releases}
-use Rattle.hall.proofs.Impeded.{member-below}
-use Rattle.hall.proofs.Lists.{clash, and-left, and-right, every-at}
+use Rattle.hall.proofs.Changes.{unused-iff, opens-task, ends-task, opens-phaser, closes-phaser, admits, leaves, arrives, blocks, releases}
+use Rattle.hall.proofs.Lists.{clash}
 use Rattle.hall.proofs.Passed.{each-all}
 use Rattle.hall.proofs.Rows.{Row, row-cases, open-task-row, end-task-row, open-phaser-row, close-phaser-row, admit-row, leave-row, arrive-row, wait-row, wait-at-row, release-row}
 use Rattle.hall.proofs.Soundness.{Fine, FineTable, sound-fine, fine-sound, sound-iff, reads-fine, put-state, put-entry, clear-row, put-open}
@@ -71,22 +72,14 @@ module _ (t : Table) (z : Shaped t) (s : soundOf t ≡ true) where
       put-entry (put-open f p true (λ k m. refl) (λ k w. refl)) a p true 0 (simp (r, eq-eqb p p refl))
 
   phaser-closed : (p : ℕ) → unused t p ≡ true → Fine (stateAt t) (put (openAt t) p false) (memberAt t) (phaseAt t)
-  unfolding unused
   phaser-closed p e =
-      put-open f p false
-      (λ k m. absurd (clash m (at k (member-below t k p m .0) .0))) (λ k w. absurd (clash w (at k (waiting k (stateAt t k) refl w) .1)))
+      let u = unused-iff t p .0 e in
+      put-open f p false (λ k m. absurd (clash m (u .0 k))) (λ k w. absurd (waiting k (stateAt t k) refl w (u .1 k)))
     where
-      at : (k : ℕ) → k < 32 → (memberAt t k p ≡ false) × (waitsAt (stateAt t k) p ≡ false)
-      at k l =
-          let m = memberAt t k p in
-          let w = waitsAt (stateAt t k) p in
-          let x = every-at (λ k. not (memberAt t k p) && not (waitsAt (stateAt t k) p)) 32 k e l in
-          (not-true m (and-left (not m) (not w) x), not-true w (and-right (not m) (not w) x))
-
-      waiting : (k : ℕ) (x : State) → stateAt t k ≡ x → waitsAt x p ≡ true → k < 32
-      waiting k Free q w = absurd (clash w refl)
-      waiting k Running q w = absurd (clash w refl)
-      waiting k (Blocked v) q w = blocked-below t k v q
+      waiting : (k : ℕ) (x : State) → stateAt t k ≡ x → waitsAt x p ≡ true → ((e : Event) → BlockedOn t k e → e .phaser .0 ≡ p → ⊥) → ⊥
+      waiting k Free q w h = clash w refl
+      waiting k Running q w h = clash w refl
+      waiting k (Blocked v) q w h = h v q (eqb-true (v .phaser .0) p w)
 
   joined : (k p n : ℕ) → isLive (stateAt t k) ≡ true → openAt t p ≡ true → n ≤ largestPhase
       → Fine (stateAt t) (openAt t) (putAt (memberAt t) k p true) (putAt (phaseAt t) k p n)

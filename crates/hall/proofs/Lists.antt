@@ -7,10 +7,10 @@ use Prim.Native.Nat.{ℕ, zero, suc, _+_, _<_, _≤_}
 use native.Mathlib.Decide.{ℕ-discrete}
 use native.Mathlib.Nat.{eq-or-lt-of-le, le-of-suc-le-suc}
 use native.Mathlib.Omega.{arith}
-use lib.Dec.{eqb}
+use lib.Dec.{eqb, ltb}
 use lib.ListN.{getD, set, length, length-set}
 use lib.Seq.{getD-set-same, getD-set-other}
-use borrow.Author.Tests.{eqb-true, eqb-false}
+use borrow.Author.Tests.{eqb-true, eqb-false, ltb-true, ltb-false}
 use Rattle.hall.specs.Effects.{filled}
 use Rattle.hall.specs.Every.{every, lowestFrom}
 pub use Rattle.hall.proofs.Every.{and-left, and-right, every-at, every-all}
@@ -62,6 +62,17 @@ lowest-lower f k (suc n) q h l = go (f k) refl l (lowest-lower f (k + 1) n q)
         at : Dec (q ≡ k) → f q ≡ false
         at (yes r) = ap f r ∙ e
         at (no r) = rec (omega arith) l
+
+-- so a number at which it holds, and fails before, is where the search stops
+pub lowest-is : (f : ℕ → Bool) (n q : ℕ) → q < n → f q ≡ true → ((r : ℕ) → r < q → f r ≡ false) → lowestFrom f 0 n ≡ q
+lowest-is f n q h e lower = go (lowestFrom f 0 n) refl (ltb (lowestFrom f 0 n) q) (ltb q (lowestFrom f 0 n)) refl refl
+  where
+    go : (m : ℕ) → lowestFrom f 0 n ≡ m → (b c : Bool) → ltb m q ≡ b → ltb q m ≡ c → m ≡ q
+    go m i true c x y =
+        let l = ltb-true m q x in
+        absurd (clash (ap f (sym i) ∙ lowest-holds f 0 n (omega (arith, i))) (lower m l))
+    go m i false true x y = let l = ltb-true q m y in absurd (clash e (lowest-lower f 0 n q (omega arith) (omega (arith, i))))
+    go m i false false x y = let l = ltb-false m q x in let r = ltb-false q m y in omega arith
 
 -- ---- what is read after writes
 module _ {A : Type 0} (l : List A) where

@@ -7,13 +7,14 @@ use Prim.Native.Nat.{ℕ, _<_, _≤_}
 use native.Mathlib.Omega.{arith}
 use lib.Dec.{leb, eqb}
 use borrow.Author.Tests.{eqb-true, eqb-false, eq-eqb, leb-true, leb-false}
+use Rattle.hall.specs.Additions.{leaving, without}
 use Rattle.hall.specs.Rules.{put, Phaser, PhaserMap, Await, phaserOf, phasersOf}
 use Rattle.hall.specs.Table.{openAt, memberAt, phaseAt, event}
 use Rattle.hall.specs.Waiting.{reachedOf}
 use Rattle.hall.specs.declared.table.State.{State}
 use Rattle.hall.specs.declared.table.Table.{Table}
 use Rattle.hall.proofs.Impeded.{impedes-iff, reached-iff}
-use Rattle.hall.proofs.Written.{Reads, putAt, put-here, put-other}
+use Rattle.hall.proofs.Written.{Reads, putAt, putRow, put-here, put-other}
 
 -- ---- reading a table's maps
 module _ (t : Table) (p : ℕ) where
@@ -126,6 +127,32 @@ module _ (t u : Table) where
       reads-phasers u r
       ∙ phasers-entry (openAt t) (put (openAt t) p true) (memberAt t) (phaseAt t) k p true n (λ j. none) (fun-ext (λ j. rw (e j))) (put-here (openAt t) p true)
       (put-other (openAt t) p true)
+
+  -- all the entries of a task are cleared
+  pub phasers-left : {state : ℕ → State} (k : ℕ) → Reads u state (openAt t) (putRow (memberAt t) k false) (putRow (phaseAt t) k 0)
+      → phasersOf u ≡ without k (phasersOf t)
+  unfolding phasersOf phaserOf
+  phasers-left k r = reads-phasers u r ∙ fun-ext (λ p. go p (openAt t p))
+    where
+      entry : (p j : ℕ) (b : Bool) → cond {A = Option ℕ} (cond b false (memberAt t j p)) (some (cond b 0 (phaseAt t j p))) none ≡ cond b none (phaserOf t p j)
+      entry p j true = refl
+      entry p j false = refl
+
+      go : (p : ℕ) (b : Bool) → cond {A = Option Phaser} b (some (phaserRead (putRow (memberAt t) k false) (putRow (phaseAt t) k 0) p)) none
+          ≡ leaving k (cond b (some (phaserOf t p)) none)
+      go p true = ap {B = Option Phaser} some (fun-ext (λ j. entry p j (eqb j k)))
+      go p false = refl
+
+  -- a phaser is closed
+  pub phasers-closed : {state : ℕ → State} (p : ℕ) → Reads u state (put (openAt t) p false) (memberAt t) (phaseAt t)
+      → phasersOf u ≡ put (phasersOf t) p none
+  unfolding phasersOf phaserOf
+  phasers-closed p r = reads-phasers u r ∙ fun-ext (λ q. go q (eqb q p))
+    where
+      go : (q : ℕ) (b : Bool) → cond {A = Option Phaser} (cond b false (openAt t q)) (some (phaserOf t q)) none
+          ≡ cond b none (cond (openAt t q) (some (phaserOf t q)) none)
+      go q true = refl
+      go q false = refl
 
 -- ---- the test of a wait is await(P, n)
 pub reached-await : (t : Table) (p n : ℕ) → (reachedOf t (event p n) ≡ true) ↔ Await (phaserOf t p) n

@@ -7,3 +7,4 @@ pub mod Tests
 pub mod Effects
 pub mod Calls
 pub mod Rules
+pub mod Additions
