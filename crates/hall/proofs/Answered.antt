@@ -1,14 +1,13 @@
 -- Which numbers each kind of call answers.
 use mathlib.Core.Path.{_≡_, refl, ap, sym, _∙_, subst}
 use mathlib.Core.Logic.{_↔_}
-use mathlib.Core.Bool.{Bool, true, false, _&&_, _||_, not}
-use mathlib.Core.List.{List, [], _∷_}
+use mathlib.Core.Bool.{Bool, true, false, _&&_, not}
+use mathlib.Core.List.{List, _∷_}
 use Prim.Native.Nat.{ℕ, _<_, _≤_}
 use native.Mathlib.Omega.{arith}
-use lib.Dec.{leb, eqb}
-use lib.ListN.{getD}
+use lib.Dec.{leb}
 use borrow.Author.Tests.{leb-true, leb-false, not-true}
-use Rattle.hall.specs.Answers.{done, waitPassed, nowBlocked, noTask, noPhaser, callerBlocked, targetBlocked, notMember, alreadyMember, phaseTooLarge, noneFree, notBlocked, notReached, inUse, noKind, notSound}
+use Rattle.hall.specs.Answers.{waitPassed, nowBlocked, noKind, notSound, answersOf, among}
 use Rattle.hall.specs.Calls.{refused, ruled, waits, callOf}
 use Rattle.hall.specs.Every.{every}
 use Rattle.hall.specs.Sound.{soundOf}
@@ -21,27 +20,6 @@ use Rattle.hall.proofs.Lists.{clash, and-left, and-right, every-at}
 use Rattle.hall.proofs.Passed.{tail, eachTest, each-told, ruled-cases}
 use Rattle.hall.proofs.Refusals.{refuses}
 use Rattle.hall.proofs.Rows.{Row, open-task-row, end-task-row, open-phaser-row, close-phaser-row, admit-row, leave-row, arrive-row, waits-cases, wait-row, wait-at-row, release-row}
-
--- the own numbers of each kind, past 44: what it answers where it is accepted, then its row's refusals in their order
-abbrev pub answersOf : ℕ → List ℕ
-answersOf kind =
-    getD (
-    (done ∷ noneFree ∷ [])
-    ∷ (done ∷ noTask ∷ callerBlocked ∷ [])
-    ∷ (done ∷ noTask ∷ callerBlocked ∷ noneFree ∷ [])
-    ∷ (done ∷ noPhaser ∷ inUse ∷ [])
-    ∷ (done ∷ noTask ∷ callerBlocked ∷ noPhaser ∷ notMember ∷ noTask ∷ targetBlocked ∷ alreadyMember ∷ [])
-    ∷ (done ∷ noTask ∷ callerBlocked ∷ noPhaser ∷ notMember ∷ [])
-    ∷ (done ∷ noTask ∷ callerBlocked ∷ noPhaser ∷ notMember ∷ phaseTooLarge ∷ [])
-    ∷ (waitPassed ∷ nowBlocked ∷ noTask ∷ callerBlocked ∷ noPhaser ∷ notMember ∷ [])
-    ∷ (waitPassed ∷ nowBlocked ∷ noTask ∷ callerBlocked ∷ noPhaser ∷ phaseTooLarge ∷ [])
-    ∷ (done ∷ noTask ∷ notBlocked ∷ notReached ∷ [])
-    ∷ [])
-    kind (noKind ∷ [])
-
-abbrev pub among : ℕ → List ℕ → Bool
-among n [] = false
-among n (x ∷ l) = eqb n x || among n l
 
 -- ---- 44 comes next
 module _ (t : Table) (rest : List Test) (effect : Called) where

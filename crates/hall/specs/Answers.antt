@@ -1,5 +1,9 @@
 -- Document 01, 'Answer numbers': those that calls and judge give. From 10 up they are refusals.
+use mathlib.Core.Bool.{Bool, false, _||_}
+use mathlib.Core.List.{List, [], _∷_}
 use Prim.Native.Nat.{ℕ}
+use lib.Dec.{eqb}
+use lib.ListN.{getD}
 
 -- 0 / 1 / 2: done / wait passed / now blocked
 abbrev pub done : ℕ
@@ -58,3 +62,25 @@ noKind = 42
 
 abbrev pub notSound : ℕ
 notSound = 44
+
+-- ---- 'The ten calls': the numbers that each kind answers over a sound table, what it answers where it is accepted and then its row's refusals, in their order
+abbrev pub answersOf : ℕ → List ℕ
+answersOf kind =
+    getD (
+    (done ∷ noneFree ∷ [])
+    ∷ (done ∷ noTask ∷ callerBlocked ∷ [])
+    ∷ (done ∷ noTask ∷ callerBlocked ∷ noneFree ∷ [])
+    ∷ (done ∷ noPhaser ∷ inUse ∷ [])
+    ∷ (done ∷ noTask ∷ callerBlocked ∷ noPhaser ∷ notMember ∷ noTask ∷ targetBlocked ∷ alreadyMember ∷ [])
+    ∷ (done ∷ noTask ∷ callerBlocked ∷ noPhaser ∷ notMember ∷ [])
+    ∷ (done ∷ noTask ∷ callerBlocked ∷ noPhaser ∷ notMember ∷ phaseTooLarge ∷ [])
+    ∷ (waitPassed ∷ nowBlocked ∷ noTask ∷ callerBlocked ∷ noPhaser ∷ notMember ∷ [])
+    ∷ (waitPassed ∷ nowBlocked ∷ noTask ∷ callerBlocked ∷ noPhaser ∷ phaseTooLarge ∷ [])
+    ∷ (done ∷ noTask ∷ notBlocked ∷ notReached ∷ [])
+    ∷ [])
+    kind (noKind ∷ [])
+
+-- n is one of the list
+abbrev pub among : ℕ → List ℕ → Bool
+among n [] = false
+among n (x ∷ l) = eqb n x || among n l

@@ -1,12 +1,12 @@
 -- Which answers the entry gives to bytes. With a route and a strip it is the reader's: the table that was read is sound, so 44 never comes, and the ring walk
 -- always finds a task to step to, so 22 never comes.
 use mathlib.Core.Path.{_≡_, refl, ap, sym, _∙_}
-use mathlib.Core.Bool.{Bool, true, false, _&&_, _||_}
+use mathlib.Core.Bool.{Bool, true, false, _||_}
 use mathlib.Core.List.{List}
 use Prim.Native.Nat.{ℕ, _≤_}
 use native.Mathlib.Decide.{ℕ-discrete}
-use lib.Dec.{T, eqb, leb}
-use Rattle.hall.specs.Answers.{done, notSound}
+use lib.Dec.{T, eqb}
+use Rattle.hall.specs.Answers.{done, notSound, among}
 use Rattle.hall.proofs.Soundness.{sound-iff}
 use Rattle.judge.specs.Verdict.{noRoute, noStep}
 use Rattle.judge.specs.declared.verdict.Verdict.{Verdict}
@@ -14,7 +14,7 @@ use Rattle.judge.proofs.Answers.{answer-0}
 use Rattle.sheet.specs.Fields.{sheetAt}
 use Rattle.sheet.proofs.Numbers.{Bytes}
 use Rattle.sheet.proofs.Theorems.{accepts, answers}
-use Rattle.mollavisce.specs.Entry.{SheetJudged, Entered, shortStrip}
+use Rattle.mollavisce.specs.Entry.{SheetJudged, Entered, shortStrip, entryAnswers}
 use Rattle.mollavisce.proofs.Entered.{Way, no-route, short, reached, way}
 
 module _ (sheet : List ℕ) (bytes : Bytes sheet) (route : ℕ) where
@@ -28,24 +28,21 @@ module _ (sheet : List ℕ) (bytes : Bytes sheet) (route : ℕ) where
           answer-0 t route v (j .judged l a) .1 (l, sound-iff t .1 s) ∙ sym a
       go (no a) = ap (λ (w : Verdict). w .answer) (j .refused l a)
 
-  -- 0, one of 30 to 36, 40 or 41
-  abbrev pub EntryAnswer : ℕ → Type 0
-  EntryAnswer n = T (eqb n done || ((leb 30 n && leb n 36) || (eqb n shortStrip || eqb n noRoute)))
-
   module _ (before after : List ℕ) (answer : ℕ) (x : Entered sheet route before after answer) where
-    pub entry-answers : EntryAnswer answer
+    pub entry-answers : T (among answer entryAnswers)
     entry-answers = go (way sheet route before after answer x)
       where
-        more : (a b c : Bool) → T (a || b) → T (a || (b || c))
+        more : (a b c : Bool) → T c → T (a || (b || c))
         more true b c h = tt
         more false true c h = tt
+        more false false c h = h
 
-        go : Way sheet route before after answer → EntryAnswer answer
+        go : Way sheet route before after answer → T (among answer entryAnswers)
         go (no-route l a s) = rw a tt
         go (short l m a s) = rw a tt
         go (reached r) =
             rw (r .answers ∙ judged-answer (r .verdict) (r .route-there) (r .judged))
-            (more (eqb (sheetAt sheet .answer) 0) (leb 30 (sheetAt sheet .answer) && leb (sheetAt sheet .answer) 36) _ (answers sheet bytes))
+            (more (eqb (sheetAt sheet .answer) noRoute) (eqb (sheetAt sheet .answer) shortStrip) _ (answers sheet bytes))
 
     pub never-44 : answer ≡ notSound → ⊥
     never-44 e = rw e at entry-answers

@@ -1,17 +1,22 @@
 -- The verdict of a sheet, and the entry for a C++ host (document 01, 'The hall sheet').
 use mathlib.Core.Path.{_≡_}
-use mathlib.Core.List.{List}
+use mathlib.Core.List.{List, _∷_}
 use Prim.Native.Nat.{ℕ, _<_, _≤_}
 use lib.ListN.{length}
 use Rattle.hall.specs.Answers.{done}
 use Rattle.judge.specs.Verdict.{nobody, noRoute, Judged}
 use Rattle.judge.specs.declared.verdict.Verdict.{Verdict}
 use Rattle.mollavisce.specs.Strip.{stripAfter}
+use Rattle.sheet.specs.Answers.{sheetAnswers}
 use Rattle.sheet.specs.Fields.{sheetAt}
 
 -- 40: answer strip under 38 bytes
 abbrev pub shortStrip : ℕ
 shortStrip = 40
+
+-- what the entry answers: 41, 40, or what the reader does
+abbrev pub entryAnswers : List ℕ
+entryAnswers = noRoute ∷ shortStrip ∷ sheetAnswers
 
 -- the verdict of a sheet: 41, then the reader's refusal, "on a refusal the verdict of nobody"; then the judge's verdict of the table that was read
 pub record SheetJudged (sheet : List ℕ) (route : ℕ) (v : Verdict) : Type 0 where

@@ -10,6 +10,7 @@ pub mod Accepted
 pub mod Written
 pub mod Settled
 pub mod Fewest
+pub mod Longest
 pub mod Bytes
 pub mod Theorems
 pub mod Examples

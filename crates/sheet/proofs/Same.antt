@@ -1,9 +1,11 @@
 -- A small logic of readings: both are refused, by the same number, of which R holds, or both read the same, of which Q holds. One rule for each combinator.
 use Prim.Native.Nat.{ℕ, zero, suc}
 use mathlib.Core.Path.{_≡_, refl}
-use mathlib.Core.Bool.{Bool, cond, true, false, _&&_}
+use mathlib.Core.Bool.{Bool, cond, true, false}
 use native.Mathlib.Omega.{arith}
-use lib.Dec.{T, leb}
+use lib.Dec.{T}
+use Rattle.hall.specs.Answers.{among}
+use Rattle.sheet.specs.Answers.{sheetRefusals}
 use Rattle.sheet.specs.Got.{Got, value, refused, onward, times}
 
 pub data Agree {A : Type 0} (R : ℕ → Type 0) (Q : A → ℕ → Type 0) : Got A → Got A → Type 0 where
@@ -12,7 +14,7 @@ pub data Agree {A : Type 0} (R : ℕ → Type 0) (Q : A → ℕ → Type 0) : Go
 
 -- 30 to 36
 abbrev pub Refusal : ℕ → Type 0
-Refusal n = T (leb 30 n && leb n 36)
+Refusal n = T (among n sheetRefusals)
 
 abbrev pub Same : {A : Type 0} → (A → ℕ → Type 0) → Got A → Got A → Type 0
 Same Q g h = Agree Refusal Q g h

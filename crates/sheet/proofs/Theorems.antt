@@ -2,17 +2,18 @@
 use Prim.Native.Nat.{ℕ, _≤_}
 use mathlib.Core.Path.{_≡_, refl, sym, ap, _∙_}
 use mathlib.Core.Logic.{_↔_}
-use mathlib.Core.Bool.{_&&_, _||_}
 use mathlib.Core.List.{List}
 use native.Mathlib.Omega.{arith}
-use lib.Dec.{T, eqb, leb}
+use lib.Dec.{T}
 use lib.ListN.{length, take}
 use borrow.Author.Tests.{ne-eqb}
+use Rattle.hall.specs.Answers.{among}
 use Rattle.hall.specs.Table.{Shaped, freshTable}
 use Rattle.hall.specs.Sound.{Sound}
 use Rattle.hall.specs.declared.table.Table.{Table}
 use Rattle.sheet.specs.declared.number.Number.{Number}
 use Rattle.sheet.specs.declared.number.Number.the-variants.{Value, Refused}
+use Rattle.sheet.specs.Answers.{sheetAnswers}
 use Rattle.sheet.specs.Got.{Got, value, refused}
 use Rattle.sheet.specs.Number.{outcome}
 use Rattle.sheet.specs.Fields.{tableAt, handed, sheetAt}
@@ -24,6 +25,7 @@ use Rattle.sheet.proofs.Written.{written}
 use Rattle.sheet.proofs.Bytes.{sheet-bytes}
 use Rattle.sheet.proofs.Settled.{longest, settles}
 use Rattle.sheet.proofs.Fewest.{fewest, enough}
+use Rattle.sheet.proofs.Longest.{fullTable, full-sound, full-shaped, full-long}
 
 -- the answer is 0 and the table t
 abbrev pub Accepts : List ℕ → Table → Type 0
@@ -61,17 +63,23 @@ no-longer s b t h = longest s b (table-of s b t h .1)
 pub written-no-longer : (t : Table) → Sound t → Shaped t → length (sheetOf t) ≤ 2291
 written-no-longer t h sh = no-longer (sheetOf t) (sheet-bytes t) t (accepts (sheetOf t) (sheet-bytes t) t .1 (h, sh, refl))
 
+-- and one has as many
+pub longest-accepted : (s : List ℕ) × Bytes s × ((t : Table) × Accepts s t) × (length s ≡ 2291)
+longest-accepted =
+    let t = fullTable in
+    (sheetOf t, sheet-bytes t, (t, accepts (sheetOf t) (sheet-bytes t) t .1 (full-sound, full-shaped, refl)), full-long)
+
 -- "So reading 2,292 settles any input"
 pub settled : (s : List ℕ) → Bytes s → sheetAt s ≡ sheetAt (take 2292 s)
 unfolding sheetAt
 settled s b = ap handed (settles s b)
 
 -- every answer is 0 or one of 30 to 36
-pub answers : (s : List ℕ) → Bytes s → T (eqb (sheetAt s .answer) 0 || (leb 30 (sheetAt s .answer) && leb (sheetAt s .answer) 36))
+pub answers : (s : List ℕ) → Bytes s → T (among (sheetAt s .answer) sheetAnswers)
 unfolding sheetAt
 answers s b = go (accepted s b)
   where
-    go : {Q : Table → ℕ → Type 0} {g h : Got Table} → Same Q g h → T (eqb (handed g .answer) 0 || (leb 30 (handed g .answer) && leb (handed g .answer) 36))
+    go : {Q : Table → ℕ → Type 0} {g h : Got Table} → Same Q g h → T (among (handed g .answer) sheetAnswers)
     go (fine q) = tt
     go (none {n} r) = rw (ne-eqb n 0 (λ e. absurd (rw e at r))) r
 

@@ -1,5 +1,7 @@
 -- Document 01, 'Answer numbers': those that a sheet is refused with.
+use mathlib.Core.List.{List, [], _∷_}
 use Prim.Native.Nat.{ℕ}
+use Rattle.hall.specs.Answers.{done}
 
 -- 30: sheet ends inside a number, or before one
 abbrev pub endsInside : ℕ
@@ -28,3 +30,10 @@ bytesAfter = 35
 -- 36: sheet speaks of a phaser that isn't open
 abbrev pub notOpen : ℕ
 notOpen = 36
+
+-- all of them; and what a reader answers: 0, or one of them
+abbrev pub sheetRefusals : List ℕ
+sheetRefusals = endsInside ∷ needlessGroup ∷ tooLarge ∷ notRising ∷ unknown ∷ bytesAfter ∷ notOpen ∷ []
+
+abbrev pub sheetAnswers : List ℕ
+sheetAnswers = done ∷ sheetRefusals
