@@ -1,8 +1,11 @@
 pub mod Sums
+pub mod Stuck
 pub mod Never
 pub mod Steps
 pub mod WayOn
+pub mod Paper
+pub mod Answers
 pub mod Moves
-pub mod Sheets
-pub mod Demands
-pub mod OneAnswer
+pub mod Verdicts
+pub mod OfSheets
+pub mod OneAnswers

@@ -1,48 +1,105 @@
--- Calls move the table by figure 3's rules: the theorems of `hall`, gathered.
-use mathlib.Core.Logic.{_↔_, Iff·trans}
-use Prim.Native.Nat.{ℕ}
-use Rattle.hall.specs.Rules.{phasersOf}
-use Rattle.hall.specs.Table.{Shaped}
+-- Calls move the table by figure 3's rules: the theorems of `hall`, gathered by kind.
+use mathlib.Core.Path.{_≡_, ap, sym, _∙_}
+use mathlib.Core.Logic.{_↔_, inl, inr}
+use mathlib.Core.Bool.{Bool}
+use Prim.Native.Nat.{ℕ, _<_}
+use native.Mathlib.Omega.{arith}
+use Rattle.hall.specs.Answers.{done, waitPassed, nowBlocked}
+use Rattle.hall.specs.Rules.{put, PhaserMap, phaserOf, phasersOf}
+use Rattle.hall.specs.Table.{Shaped, stateAt, phaseAt, event}
+use Rattle.hall.specs.Tests.{lowestFree}
+use Rattle.hall.specs.declared.calls.Called.{Called}
+use Rattle.hall.specs.declared.table.State.{State}
+use Rattle.hall.specs.declared.table.State.the-variants.{Running, Blocked}
 use Rattle.hall.specs.declared.table.Table.{Table}
-use Rattle.hall.proofs.Figure3.{Caller, AwaitsN, open-phaser-exact, admit-exact, leave-exact, arrive-exact, wait-passes, wait-blocks, wait-at-passes, wait-at-blocks, release-exact, phasers-stay}
-use Rattle.demands.specs.Moves.{Runs, Behind, ByRules}
+use Rattle.hall.proofs.Changes.{Gives, Waited, open-task-changes, end-task-changes, open-phaser-changes, close-phaser-changes, admit-changes, leave-changes, arrive-changes, wait-changes, wait-at-changes, release-changes}
+use Rattle.hall.proofs.Figure3.{Steps, open-task-exact, end-task-exact, open-phaser-exact, close-phaser-exact, admit-exact, leave-exact, arrive-exact, wait-passes, wait-blocks, wait-at-passes, wait-at-blocks, release-exact}
+use Rattle.hall.proofs.Lists.{clash}
+use Rattle.hall.proofs.Maps.{phaser-there, member-is, phasers-same}
+use Rattle.demands.specs.Moves.{Rule, Waits, ByRules}
+use Rattle.demands.specs.Series.{Call, made}
 
--- the caller, and what is asked beside
-module _ (t : Table) (a : ℕ) where
-  runs : {Q R : Type 0} → Q ↔ R → (Caller t a × Q) ↔ (Runs t a × R)
-  runs f = (λ x. ((x .0 .sound, x .0 .runs), f .0 (x .1)), λ x. (record { sound = x .0 .0; runs = x .0 .1 }, f .1 (x .1)))
+-- ---- a call that is done where it is accepted
+module _ {r : Called} {value : ℕ} {state : ℕ → State} {opened : ℕ → Bool} {member : ℕ → ℕ → Bool} {phase : ℕ → ℕ → ℕ}
+    (gives : r .answer < 10 → Gives r done value state opened member phase) where
+  -- accepted with a map and a value exactly there
+  opening : {Where : ℕ → PhaserMap → Type 0} → ((v : ℕ) (M′ : PhaserMap) → (Steps r M′ × (r .value ≡ v)) ↔ Where v M′) → Rule r Where state
+  opening exact = record {
+    moves = λ v M′. (
+      λ x. exact v M′ .0 ((omega (arith, x .0), x .2), x .1),
+      λ w. let s = exact v M′ .1 w in (gives (s .0 .0) .answers, s .1, s .0 .1),
+    );
+    states = λ e. gives (omega (arith, e)) .reads .states;
+  }
 
-  runs-and : {Q R S U : Type 0} → Q ↔ R → S ↔ U → (Caller t a × Q × S) ↔ (Runs t a × R × U)
-  runs-and f g = (
-    λ x. ((x .0 .sound, x .0 .runs), f .0 (x .1), g .0 (x .2)),
-    λ x. (record { sound = x .0 .0; runs = x .0 .1 }, f .1 (x .1), g .1 (x .2)),
-  )
+  -- accepted with a map exactly there, and with the value that it then has
+  moving : {W : PhaserMap → Type 0} {Where : ℕ → PhaserMap → Type 0} → ((M′ : PhaserMap) → Steps r M′ ↔ W M′)
+      → ((v : ℕ) (M′ : PhaserMap) → (W M′ × (v ≡ value)) ↔ Where v M′) → Rule r Where state
+  moving exact also = opening (λ v M′. (
+    λ x. also v M′ .0 (exact M′ .0 (x .0), sym (x .1) ∙ gives (x .0 .0) .values),
+    λ w. let y = also v M′ .1 w in let s = exact M′ .1 (y .0) in (s, gives (s .0) .values ∙ sym (y .1)),
+  ))
 
-same : {Q : Type 0} → Q ↔ Q
-same = (λ x. x, λ x. x)
+-- the state of the task whose number is the value
+by-value : {r : Called} {Where : ℕ → PhaserMap → Type 0} (state : ℕ → ℕ → State) (n : ℕ) → (r .answer < 10 → r .value ≡ n) → Rule r Where (state n)
+    → Rule r Where (state (r .value))
+by-value state n values x = record {
+  moves = x .moves;
+  states = λ e k. x .states e k ∙ ap (λ (m : ℕ). state m k) (sym (values (omega (arith, e))));
+}
 
-pub by-rules : (t : Table) → Shaped t → ByRules t
-by-rules t z = record {
-  open-phaser = λ a p o q M′.
-      Iff·trans (open-phaser-exact t z a p o q M′)
-      (runs-and t a same (λ x. (x .below, x .lower), λ x. record { below = x .0; lower = x .1 }));
-  admit = λ a p b M′. Iff·trans (admit-exact t z a p b M′) (runs-and t a same same);
-  leave = λ a p o M′. Iff·trans (leave-exact t z a p o M′) (runs t a same);
-  arrive = λ a p o M′. Iff·trans (arrive-exact t z a p o M′) (runs-and t a same same);
-  wait-passes = λ a p o. Iff·trans (wait-passes t z a p o) (runs t a same);
-  wait-blocks = λ a p o. Iff·trans (wait-blocks t z a p o)
-      (runs t a (
-        λ w. (w .phaser, w .phase, w .there, w .caller, behind p (w .phase) .0 (w .waits)),
-        λ x. record { phaser = x .0; there = x .2; phase = x .1; caller = x .3; waits = behind p (x .1) .1 (x .4) },
-      ));
-  wait-at-passes = λ a p n. Iff·trans (wait-at-passes t z a p n) (runs-and t a same same);
-  wait-at-blocks = λ a p n. Iff·trans (wait-at-blocks t z a p n) (runs-and t a (behind p n) same);
-  release = λ a p o. Iff·trans (release-exact t z a p o) (
-    λ w. (w .sound, (w .event, w .blocked, w .rule)),
-    λ x. record { sound = x .0; event = x .1 .0; blocked = x .1 .1; rule = x .1 .2 },
-  );
-  stays = λ kind a p o. phasers-stay t z a p o kind;
+-- ---- a wait
+waiting : (t : Table) (z : Shaped t) (a p n : ℕ) {r : Called} {Passes Blocks : Type 0} → (r .answer ≡ waitPassed) ↔ Passes
+    → (r .answer ≡ nowBlocked) ↔ Blocks → (r .answer < 10 → Waited t z a p n r) → Waits t a p n r Passes Blocks
+waiting t z a p n {r} passes blocks waited = record {
+  passes = passes;
+  unchanged = λ e. unchanged e (waited (omega (arith, e)));
+  blocks = blocks;
+  phasers = λ e. phasers e (waited (omega (arith, e)));
+  states = λ e. states e (waited (omega (arith, e)));
 }
   where
-    behind : (p n : ℕ) → AwaitsN p n (phasersOf t) ↔ Behind (phasersOf t) p n
-    behind p n = (λ w. (w .phaser, w .there, w .behind), λ x. record { phaser = x .0; there = x .1; behind = x .2 })
+    answers : {c : Called} → r ≡ c → r .answer ≡ c .answer
+    answers q = ap (λ (c : Called). c .answer) q
+
+    unchanged : r .answer ≡ waitPassed → Waited t z a p n r → (r .value ≡ 0) × (r .table ≡ t)
+    unchanged e (inl x) = (ap (λ (c : Called). c .value) (x .1), ap (λ (c : Called). c .table) (x .1))
+    unchanged e (inr x) = absurd (omega (arith, e, answers (x .1)))
+
+    phasers : r .answer ≡ nowBlocked → Waited t z a p n r → (r .value ≡ 0) × (phasersOf (r .table) ≡ phasersOf t)
+    phasers e (inl x) = absurd (omega (arith, e, answers (x .1)))
+    phasers e (inr x) = (ap (λ (c : Called). c .value) (x .1), phasers-same t (r .table) (x .2))
+
+    states : r .answer ≡ nowBlocked → Waited t z a p n r → (k : ℕ) → stateAt (r .table) k ≡ put (stateAt t) a (Blocked (event p n)) k
+    states e (inl x) = absurd (omega (arith, e, answers (x .1)))
+    states e (inr x) = x .2 .states
+
+pub by-rules : (t : Table) → Shaped t → (c : Call) → ByRules t c (made t c)
+by-rules t z c =
+    let a = c .task in
+    let p = c .phaser in
+    let o = c .other in
+    record {
+      open-task = λ q. rw q
+          (by-value (λ n. put (stateAt t) n Running) (lowestFree t) (λ l. open-task-changes t z a p o l .values)
+          (opening (open-task-changes t z a p o) (open-task-exact t z a p o)));
+      end-task = λ q. rw q (moving (end-task-changes t z a p o) (end-task-exact t z a p o) (λ v M′. (λ x. (x .0 .0, x .1, x .0 .1), λ x. ((x .0, x .2), x .1))));
+      open-phaser = λ q. rw q (opening (open-phaser-changes t z a p o) (open-phaser-exact t z a p o));
+      close-phaser = λ q. rw q
+          (moving (close-phaser-changes t z a p o) (close-phaser-exact t z a p o)
+          (λ v M′. (λ x. (x .0 .0, x .0 .1, x .1, x .0 .2), λ x. ((x .0, x .1, x .3), x .2))));
+      admit = λ q. rw q
+          (moving (admit-changes t z a p o) (admit-exact t z a p o) (λ v M′. (λ x. (x .0 .0, x .0 .1, x .0 .2, x .1), λ x. ((x .0, x .1, x .2), x .3))));
+      leave = λ q. rw q (moving (leave-changes t z a p o) (leave-exact t z a p o) (λ v M′. (λ x. (x .0 .0, x .0 .1, x .1), λ x. ((x .0, x .1), x .2))));
+      arrive = λ q. rw q
+          (moving (arrive-changes t z a p o) (arrive-exact t z a p o) (λ v M′. (λ x. (x .0 .0, x .0 .1, x .0 .2, x .1), λ x. ((x .0, x .1, x .2), x .3))));
+      wait = λ q. rw q (waiting t z a p (phaseAt t a p) (wait-passes t z a p o) (wait-blocks t z a p o) (wait-changes t z a p o));
+      wait-at = λ q. rw q (waiting t z a p o (wait-at-passes t z a p o) (wait-at-blocks t z a p o) (wait-at-changes t z a p o));
+      no-members = λ q r e h l. rw q
+          (wait-at-passes t z a p o .1 (
+            r,
+            record { phaser = phaserOf t p; there = phaser-there t p e; all = λ u m i. absurd (clash (member-is t p u m i .0) (h u)) },
+            l,
+          ));
+      release = λ q. rw q (moving (release-changes t z a p o) (release-exact t z a p o) (λ v M′. (λ x. (x .0 .0, x .0 .1, x .1, x .0 .2), λ x. ((x .0, x .1, x .3), x .2))));
+    }

@@ -4,13 +4,13 @@ use mathlib.Core.List.{[], _∷_}
 use Prim.Native.Nat.{ℕ}
 use Rattle.deadlock.proofs.Theory.{frame-stuck}
 use Rattle.hall.specs.Table.{Shaped}
-use Rattle.hall.specs.Waiting.{BlockedOn, Impedes}
 use Rattle.hall.specs.declared.table.Table.{Table}
 use Rattle.hall.proofs.Frame.{call-frame, impeded-refused}
 use Rattle.hall.proofs.Kept.{call-shaped}
-use Rattle.demands.specs.Series.{StuckIn, Call, made, Accepted, Releases, Contains, Never}
+use Rattle.demands.specs.Series.{Call, made, Accepted, Releases, Contains, Never}
+use Rattle.demands.proofs.Stuck.{StuckAt}
 
-pub stuck-refused : (t : Table) (k : ℕ) → StuckIn t k → (c : Call) → Releases k c → Accepted t c → ⊥
+pub stuck-refused : (t : Table) (k : ℕ) → StuckAt t k → (c : Call) → Releases k c → Accepted t c → ⊥
 stuck-refused t k x c r a =
     let h = x .deadlocked .each k (x .holds) in
     impeded-refused t k (h .by) (h .event) (h .waits) (h .impedes) (c .phaser) (c .other) (rw (r .kind, r .task) at a)
@@ -19,11 +19,11 @@ stuck-refused t k x c r a =
 pub made-shaped : (t : Table) → Shaped t → (c : Call) → Shaped (made t c .table)
 made-shaped t z c = call-shaped t z (c .kind) (c .task) (c .phaser) (c .other)
 
-pub made-stuck : (t : Table) → Shaped t → (c : Call) (k : ℕ) → StuckIn t k → StuckIn (made t c .table) k
+pub made-stuck : (t : Table) → Shaped t → (c : Call) (k : ℕ) → StuckAt t k → StuckAt (made t c .table) k
 made-stuck t z c = frame-stuck _ _ _ _ (call-frame t z (c .kind) (c .task) (c .phaser) (c .other))
 
 -- ---- through a series
-pub stuck-never : (t : Table) → Shaped t → (k : ℕ) → StuckIn t k → Never t k
+pub stuck-never : (t : Table) → Shaped t → (k : ℕ) → StuckAt t k → Never t k
 stuck-never t z k x [] s f = f
 stuck-never t z k x (c ∷ calls) s f =
     ⊎-elim (λ (r : Releases k c). stuck-refused t k x c r (s .0))

@@ -23,7 +23,8 @@ use Rattle.hall.proofs.Lists.{clash, every-at, every-find}
 use Rattle.hall.proofs.Rows.{row-accepted, end-task-row, release-row}
 use Rattle.hall.proofs.Soundness.{sound-iff}
 use Rattle.hall.proofs.Written.{put-here, put-other, state-below}
-use Rattle.demands.specs.Series.{StuckIn, Call, made, Accepted, release}
+use Rattle.demands.specs.Series.{Call, made, Accepted, release}
+use Rattle.demands.proofs.Stuck.{StuckAt}
 use Rattle.deadlock.proofs.Theory.{frame-stuck}
 use Rattle.demands.proofs.Sums.{sum, sum-less}
 
@@ -43,7 +44,7 @@ pub record Lightens (u : ℕ) (t t′ : Table) : Type 0 where
   pub less : ahead (stateAt t′ u) < ahead (stateAt t u)
 
 module _ {u : ℕ} {t t′ : Table} (l : Lightens u t t′) where
-  pub lightens-stuck : (k : ℕ) → StuckIn t′ k → StuckIn t k
+  pub lightens-stuck : (k : ℕ) → StuckAt t′ k → StuckAt t k
   lightens-stuck = frame-stuck _ _ _ _ (fewer-frame t t′ (l .fewer))
 
   pub lightens-left : left t′ < left t
@@ -111,7 +112,7 @@ abbrev pub Tight : Table → Type 0
 Tight t = (k : ℕ) (e : Event) → BlockedOn t k e → (u : ℕ) × (f : Event) × BlockedOn t u f × Impedes t u e
 
 -- then the blocked ones are a totally deadlocked set
-pub tight-stuck : (t : Table) → Tight t → (k : ℕ) (e : Event) → BlockedOn t k e → StuckIn t k
+pub tight-stuck : (t : Table) → Tight t → (k : ℕ) (e : Event) → BlockedOn t k e → StuckAt t k
 tight-stuck t h k e b = record {
   set = λ v. (f : Event) × BlockedOn t v f;
   deadlocked = record {

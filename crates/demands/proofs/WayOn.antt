@@ -13,7 +13,8 @@ use Rattle.hall.specs.declared.table.Event.{Event}
 use Rattle.hall.specs.declared.table.Table.{Table}
 use Rattle.hall.proofs.Kept.{call-sound}
 use Rattle.hall.proofs.Soundness.{sound-iff}
-use Rattle.demands.specs.Series.{StuckIn, Call, made, Accepted, Contains, Never, release, WayOn}
+use Rattle.demands.specs.Series.{Call, made, Accepted, Contains, Never, release, WayOn}
+use Rattle.demands.proofs.Stuck.{StuckAt}
 use Rattle.demands.proofs.Never.{made-shaped, stuck-never}
 use Rattle.demands.proofs.Steps.{left, lightens-stuck, lightens-left, Step, Tight, tight-stuck, look}
 
@@ -22,15 +23,15 @@ made-sound t z s c = call-sound t z s (c .kind) (c .task) (c .phaser) (c .other)
 
 -- what a step leaves, and the table before it
 step-back : (t : Table) (k : ℕ) (e : Event) → BlockedOn t k e → (p : Step t)
-    → (BlockedOn (made t (p .call) .table) k e → StuckIn (made t (p .call) .table) k ⊎ WayOn (made t (p .call) .table) k)
-    → StuckIn t k ⊎ WayOn t k
+    → (BlockedOn (made t (p .call) .table) k e → StuckAt (made t (p .call) .table) k ⊎ WayOn (made t (p .call) .table) k)
+    → StuckAt t k ⊎ WayOn t k
 step-back t k e b p rest = go (ℕ-discrete k (p .task))
   where
-    back : StuckIn (made t (p .call) .table) k ⊎ WayOn (made t (p .call) .table) k → StuckIn t k ⊎ WayOn t k
+    back : StuckAt (made t (p .call) .table) k ⊎ WayOn (made t (p .call) .table) k → StuckAt t k ⊎ WayOn t k
     back (inl x) = inl (lightens-stuck (p .lightens) k x)
     back (inr w) = inr (record { calls = p .call ∷ w .calls; series = (p .accepted, w .series) })
 
-    go : Dec (k ≡ p .task) → StuckIn t k ⊎ WayOn t k
+    go : Dec (k ≡ p .task) → StuckAt t k ⊎ WayOn t k
     go (yes q) =
         let c : p .call ≡ release k = p .releases e (subst (λ j. BlockedOn t j e) q b) ∙ ap release (sym q) in
         inr (record { calls = []; series = (subst (Accepted t) c (p .accepted), tt) })
@@ -38,17 +39,17 @@ step-back t k e b p rest = go (ℕ-discrete k (p .task))
 
 -- step by step, as long as anybody can take one; in the end the blocked ones are a deadlocked set
 module _ (t : Table) (z : Shaped t) (s : soundOf t ≡ true) (k : ℕ) (e : Event) (b : BlockedOn t k e) where
-  step-or-stuck : (Step t → StuckIn t k ⊎ WayOn t k) → StuckIn t k ⊎ WayOn t k
+  step-or-stuck : (Step t → StuckAt t k ⊎ WayOn t k) → StuckAt t k ⊎ WayOn t k
   step-or-stuck f = ⊎-elim f (λ (h : Tight t). inl (tight-stuck t h k e b)) (look t z s)
 
-go-on : (n : ℕ) (t : Table) → Shaped t → soundOf t ≡ true → left t ≤ n → (k : ℕ) (e : Event) → BlockedOn t k e → StuckIn t k ⊎ WayOn t k
+go-on : (n : ℕ) (t : Table) → Shaped t → soundOf t ≡ true → left t ≤ n → (k : ℕ) (e : Event) → BlockedOn t k e → StuckAt t k ⊎ WayOn t k
 go-on zero t z s l k e b = step-or-stuck t z s k e b (λ p. absurd (omega (arith, lightens-left (p .lightens))))
 go-on (suc n) t z s l k e b =
     step-or-stuck t z s k e b
     (λ p. step-back t k e b p
     (λ c. go-on n (made t (p .call) .table) (made-shaped t z (p .call)) (made-sound t z s (p .call)) (omega (arith, lightens-left (p .lightens))) k e c))
 
-pub stuck-or-way-on : (t : Table) → Shaped t → Sound t → (k : ℕ) (e : Event) → BlockedOn t k e → StuckIn t k ⊎ WayOn t k
+pub stuck-or-way-on : (t : Table) → Shaped t → Sound t → (k : ℕ) (e : Event) → BlockedOn t k e → StuckAt t k ⊎ WayOn t k
 stuck-or-way-on t z s = go-on (left t) t z (sound-iff t .1 s) (omega arith)
 
 -- ---- exactly when
@@ -56,12 +57,12 @@ ends-contains : (k : ℕ) (calls : List Call) → Contains k (calls ++ (release 
 ends-contains k [] = inl (record { kind = refl; task = refl })
 ends-contains k (c ∷ calls) = inr (ends-contains k calls)
 
-pub way-on-not-stuck : (t : Table) → Shaped t → (k : ℕ) → WayOn t k → StuckIn t k → ⊥
+pub way-on-not-stuck : (t : Table) → Shaped t → (k : ℕ) → WayOn t k → StuckAt t k → ⊥
 way-on-not-stuck t z k w x = stuck-never t z k x (w .calls ++ (release k ∷ [])) (w .series) (ends-contains k (w .calls))
 
-pub stuck-iff-never : (t : Table) → Shaped t → Sound t → (k : ℕ) (e : Event) → BlockedOn t k e → StuckIn t k ↔ Never t k
+pub stuck-iff-never : (t : Table) → Shaped t → Sound t → (k : ℕ) (e : Event) → BlockedOn t k e → StuckAt t k ↔ Never t k
 stuck-iff-never t z s k e b = (
   stuck-never t z k,
-  λ h. ⊎-elim (λ (x : StuckIn t k). x) (λ (w : WayOn t k). absurd (h (w .calls ++ (release k ∷ [])) (w .series) (ends-contains k (w .calls))))
+  λ h. ⊎-elim (λ (x : StuckAt t k). x) (λ (w : WayOn t k). absurd (h (w .calls ++ (release k ∷ [])) (w .series) (ends-contains k (w .calls))))
       (stuck-or-way-on t z s k e b),
 )

@@ -1,26 +1,30 @@
--- Document 00: "Three things must hold before I peel that off the exercise dial." One record for each, over what the floors below promise: `callOf` is what
--- a call hands back, `Judged` what the judge does, `Entered` what `sheet_verdict` answers and leaves in the strip.
+-- Document 00: "Three things must hold before I peel that off the exercise dial." The functions of this crate hand on what the public functions below them hand
+-- back, and promise these records of it, a field a sentence: so each is about what the code does, and would fail here if the code promised less.
 use mathlib.Core.Path.{_≡_}
 use mathlib.Core.Logic.{_↔_}
 use mathlib.Core.Bool.{true}
-use mathlib.Core.List.{List}
+use mathlib.Core.List.{List, [], _∷_}
 use Prim.Native.Nat.{ℕ, _<_, _≤_}
-use lib.ListN.{getD, length}
-use Rattle.sets.specs.Set.{Has}
-use Rattle.hall.specs.Answers.{done, noKind, notSound}
-use Rattle.hall.specs.Calls.{callOf}
+use lib.ListN.{length, drop, take}
+use Rattle.sets.specs.Set.{Has, size}
+use Rattle.deadlock.specs.Ring.{RingIn}
+use Rattle.hall.specs.Answers.{done, noKind, notSound, among, answersOf}
+use Rattle.hall.specs.Rules.{PhaserMap}
 use Rattle.hall.specs.Sound.{Sound}
-use Rattle.hall.specs.Table.{Shaped, memberAt, phaseAt}
-use Rattle.hall.specs.Waiting.{BlockedOn, Impedes}
+use Rattle.hall.specs.Table.{Shaped, freshTable}
+use Rattle.hall.specs.Waiting.{BlockedOn}
+use Rattle.hall.specs.declared.calls.Called.{Called}
 use Rattle.hall.specs.declared.table.Event.{Event}
 use Rattle.hall.specs.declared.table.Table.{Table}
-use Rattle.judge.specs.Verdict.{Judged}
+use Rattle.judge.specs.Verdict.{noRoute, nobody, ImpedesTask, Judged}
 use Rattle.judge.specs.declared.verdict.Verdict.{Verdict}
+use Rattle.sheet.specs.Answers.{sheetAnswers}
+use Rattle.sheet.specs.Fields.{hands, sheetAt}
 use Rattle.sheet.specs.Written.{sheetOf}
-use Rattle.mollavisce.specs.Entry.{Entered}
+use Rattle.mollavisce.specs.Entry.{shortStrip, entryAnswers, SheetJudged, Entered}
 use Rattle.mollavisce.specs.Strip.{verdictIn}
-use Rattle.demands.specs.Moves.{ByRules}
-use Rattle.demands.specs.Series.{StuckIn, Never, WayOn}
+use Rattle.demands.specs.PhaserDeadlocks.{TaskMap, StandsFor, DeadlockedWith}
+use Rattle.demands.specs.Series.{StuckIn, Call, made, Never, WayOn}
 
 -- the bytes are the sheet of some sound table
 pub record SheetOfSound (sheet : List ℕ) : Type 0 where
@@ -29,55 +33,111 @@ pub record SheetOfSound (sheet : List ℕ) : Type 0 where
   pub sound : Sound table
   pub is : sheet ≡ sheetOf table
 
--- ---- 1
-pub record Demand1 : Type 0 where
-  -- "Every call .., with numbers of any size in it, is answered": any other kind with 42; a table that is not sound with 44; else by the kind's own row
-  pub no-kind : (t : Table) (kind task phaser other : ℕ) → (callOf t kind task phaser other .answer ≡ noKind) ↔ (10 ≤ kind)
-  pub not-sound : (t : Table) (kind task phaser other : ℕ) → (callOf t kind task phaser other .answer ≡ notSound) ↔ ((kind < 10) × (Sound t → ⊥))
-  -- "A refusal gives its own number and a value of 0, the table stays as it stood"
-  pub refusal : (t : Table) (kind task phaser other : ℕ) → 10 ≤ callOf t kind task phaser other .answer
-      → (callOf t kind task phaser other .value ≡ 0) × (callOf t kind task phaser other .table ≡ t)
-  -- ".. and every status sheet": any bytes, route and strip have an answer, and a strip after it
-  pub sheet : (sheet : List ℕ) (route : ℕ) (before : List ℕ) → (answer : ℕ) × (after : List ℕ) × Entered sheet route before after answer
-  -- which is 0 exactly for the sheet of a sound table, by route 0 or 1, with 38 bytes to write
-  pub sheet-accepted : (sheet : List ℕ) (route : ℕ) (before after : List ℕ) (answer : ℕ) → Entered sheet route before after answer
-      → ((i : ℕ) → getD sheet i 0 < 256) → (answer ≡ done) ↔ ((route ≤ 1) × (38 ≤ length before) × SheetOfSound sheet)
-  -- "and not one byte of the lent answer strip moves"
-  pub strip : (sheet : List ℕ) (route : ℕ) (before after : List ℕ) (answer : ℕ) → Entered sheet route before after answer → (answer ≡ done → ⊥)
-      → after ≡ before
+-- ---- 1. "Every call and every status sheet, with numbers of any size in it, is answered without a fault and without leaning on the caller's care. A refusal gives
+-- its own number and a value of 0, the table stays as it stood, and not one byte of the lent answer strip moves."
+-- the kinds that use their task, their phaser, their other number
+abbrev pub taskUsers : List ℕ
+taskUsers = 1 ∷ 2 ∷ 4 ∷ 5 ∷ 6 ∷ 7 ∷ 8 ∷ 9 ∷ []
 
--- ---- 2
-pub record Demand2 : Type 1 where
-  -- the judge has a verdict on every table by every route number; its answer is 0 exactly where the route is 0 or 1 and the table is sound
-  pub judged : (t : Table) (route : ℕ) → (v : Verdict) × Judged t route v
-  pub answers : (t : Table) (route : ℕ) (v : Verdict) → Judged t route v → (v .answer ≡ done) ↔ ((route ≤ 1) × Sound t)
-  -- "A task is named stuck exactly when it belongs to some totally deadlocked set, as source document 000 defines that ..
-  pub named : (t : Table) (route : ℕ) (v : Verdict) → Judged t route v → v .answer ≡ done → (k : ℕ) → Has (v .named) k ↔ StuckIn t k
-  -- .. for phasers": "A member with a phase less than n impedes event (p, n). Equal does not impede." (document 01)
-  pub impedes : (t : Table) (u : ℕ) (e : Event) → Impedes t u e ↔ ((memberAt t u (e .phaser .0) ≡ true) × (phaseAt t u (e .phaser .0) < e .phase .0))
-  -- and what stands in the strip after answer 0 is that verdict, on the table whose sheet was handed over
-  pub listed : (t : Table) → Shaped t → Sound t → (route : ℕ) (before after : List ℕ) → Entered (sheetOf t) route before after done
-      → Judged t route (verdictIn after)
-  -- "Calls move the table by that paper's rules, within the limits, additions and one narrowing that document 01 states."
-  pub moves : (t : Table) → Shaped t → ByRules t
+abbrev pub phaserUsers : List ℕ
+phaserUsers = 3 ∷ 4 ∷ 5 ∷ 6 ∷ 7 ∷ 8 ∷ []
 
--- ---- 3: "In every sound table .."
--- a verdict on the table by one of the two routes
-pub record Verdicts (t : Table) (v : Verdict) : Type 0 where
-  pub route : ℕ
-  pub either : route ≤ 1
-  pub judged : Judged t route v
+abbrev pub otherUsers : List ℕ
+otherUsers = 4 ∷ 8 ∷ []
 
-pub record Demand3 (t : Table) : Type 1 where
-  -- ".. the task-to-task route and the event-to-event route name the same tasks": "I can't have the verdict hang on that choice"
-  pub same : (v w : Verdict) → Verdicts t v → Verdicts t w → v ≡ w
-  -- "A blocked task is among them exactly when no series of accepted calls, however long and by whichever tasks, could ever contain an accepted release of it."
-  pub never : (v : Verdict) → Verdicts t v → (k : ℕ) (e : Event) → BlockedOn t k e → Has (v .named) k ↔ Never t k
+-- two calls of a kind with the same numbers where it uses them
+pub record SameUsed (c d : Call) : Type 0 where
+  pub kind : d .kind ≡ c .kind
+  pub task : among (c .kind) taskUsers ≡ true → d .task ≡ c .task
+  pub phaser : among (c .kind) phaserUsers ≡ true → d .phaser ≡ c .phaser
+  pub other : among (c .kind) otherUsers ≡ true → d .other ≡ c .other
+
+-- a call c on a table t, and what was handed back
+pub record CallAnswered (t : Table) (c : Call) (r : Called) : Type 0 where
+  -- it is the row of document 01's table: so a series of calls (`Series`) is one of what the code hands back
+  pub is : r ≡ made t c
+  -- "its own number": 42 exactly where there is no such kind; 44 exactly where there is one and the table is not sound; else a number of the kind's row
+  pub no-kind : (r .answer ≡ noKind) ↔ (10 ≤ c .kind)
+  pub not-sound : (r .answer ≡ notSound) ↔ ((c .kind < 10) × (Sound t → ⊥))
+  pub own : c .kind < 10 → Sound t → among (r .answer) (answersOf (c .kind)) ≡ true
+  -- "and a value of 0, the table stays as it stood"
+  pub refusal : 10 ≤ r .answer → (r .value ≡ 0) × (r .table ≡ t)
+  -- "No call makes a sound table unsound." (document 01)
+  pub sound : Sound t → Sound (r .table)
+  -- "Numbers that a kind doesn't use are not looked at." (document 01)
+  pub unused : (d : Call) → SameUsed c d → made t d ≡ r
+
+-- a sheet, and the reader's answer and table
+pub record SheetRead (sheet : List ℕ) (answer : ℕ) (t : Table) : Type 0 where
+  pub is : hands answer t ≡ sheetAt sheet
+  -- it accepts exactly the sheets of sound tables, and hands back that table
+  pub accepted : (u : Table) → ((answer ≡ done) × (t ≡ u)) ↔ (Sound u × Shaped u × (sheet ≡ sheetOf u))
+  pub own : among answer sheetAnswers ≡ true
+  -- "A sheet reader that refuses hands back a fresh table." (document 01)
+  pub fresh : (answer ≡ done → ⊥) → t ≡ freshTable
+  -- "The longest sheet has 2,291 bytes. So reading 2,292 settles any input." (document 01)
+  pub longest : answer ≡ done → length sheet ≤ 2291
+  pub settled : hands answer t ≡ sheetAt (take 2292 sheet)
+
+-- ---- 2. "A task is named stuck exactly when it belongs to some totally deadlocked set, as source document 000 defines that for phasers."
+-- a table, and a verdict on it with answer 0
+pub record NamesTheStuck (t : Table) (v : Verdict) : Type 0 where
+  pub named : (k : ℕ) → Has (v .named) k ↔ StuckIn t k
+  -- "as source document 000 defines that": in every state of the paper's that the table stands for, and it stands for one
+  pub paper : (M : PhaserMap) (T : TaskMap) → StandsFor t M T → (k : ℕ) → Has (v .named) k ↔ DeadlockedWith M T k
+  pub stands : (M : PhaserMap) × (T : TaskMap) × StandsFor t M T
+  -- "The count is the number of set bits in the mask", and the ring is the named tasks' (document 01)
+  pub count : v .count ≡ size (v .named) 32
+  pub ring : RingIn (Has (v .named)) (ImpedesTask t) (record { closed = true; length = v .length; tasks = v .ring })
+
+-- ---- 3. "A blocked task is among them exactly when no series of accepted calls, however long and by whichever tasks, could ever contain an accepted release of it."
+pub record MeansNever (t : Table) (v : Verdict) : Type 0 where
+  pub never : (k : ℕ) (e : Event) → BlockedOn t k e → Has (v .named) k ↔ Never t k
   -- "a task left off the list must have a way to go on"
-  pub way-on : (v : Verdict) → Verdicts t v → (k : ℕ) (e : Event) → BlockedOn t k e → (Has (v .named) k → ⊥) → WayOn t k
+  pub way-on : (k : ℕ) (e : Event) → BlockedOn t k e → (Has (v .named) k → ⊥) → WayOn t k
 
--- the three; `Shaped` has the arrays' lengths, which code has by their types
-pub record Demands : Type 1 where
-  pub first : Demand1
-  pub second : Demand2
-  pub third : (t : Table) → Shaped t → Sound t → Demand3 t
+-- "In every sound table the task-to-task route and the event-to-event route name the same tasks": as the two routes hand them back
+pub record RoutesAgree (t : Table) (tasks events : ℕ) : Type 0 where
+  pub same : tasks ≡ events
+  pub stuck : (k : ℕ) → Has tasks k ↔ StuckIn t k
+
+-- ---- what the three say of each verdict that is handed back
+-- the judge's, of a table by a route
+pub record TableJudged (t : Table) (route : ℕ) (v : Verdict) : Type 0 where
+  pub is : Judged t route v
+  pub no-route : (v .answer ≡ noRoute) ↔ (1 < route)
+  pub not-sound : (v .answer ≡ notSound) ↔ ((route ≤ 1) × (Sound t → ⊥))
+  pub accepted : (v .answer ≡ done) ↔ ((route ≤ 1) × Sound t)
+  pub own : among (v .answer) (done ∷ noRoute ∷ notSound ∷ []) ≡ true
+  pub refusal : (v .answer ≡ done → ⊥) → v ≡ nobody (v .answer)
+  pub names : v .answer ≡ done → NamesTheStuck t v
+  pub never : v .answer ≡ done → MeansNever t v
+
+-- of the table whose sheet the bytes are
+abbrev pub OfSheet : List ℕ → (Table → Type 0) → Type 0
+OfSheet sheet P = (t : Table) → Shaped t → Sound t → sheet ≡ sheetOf t → P t
+
+-- a sheet's, by a route
+pub record SheetVerdict (sheet : List ℕ) (route : ℕ) (v : Verdict) : Type 0 where
+  pub is : SheetJudged sheet route v
+  pub no-route : (v .answer ≡ noRoute) ↔ (1 < route)
+  pub accepted : (v .answer ≡ done) ↔ ((route ≤ 1) × SheetOfSound sheet)
+  pub fault : route ≤ 1 → v .answer ≡ sheetAt sheet .answer
+  pub own : among (v .answer) (noRoute ∷ sheetAnswers) ≡ true
+  pub refusal : (v .answer ≡ done → ⊥) → v ≡ nobody (v .answer)
+  pub names : v .answer ≡ done → OfSheet sheet (λ t. NamesTheStuck t v)
+  pub never : v .answer ≡ done → OfSheet sheet (λ t. MeansNever t v)
+
+-- the entry's, of a sheet by a route, as it stands in the strip
+pub record SheetAnswered (sheet : List ℕ) (route : ℕ) (before after : List ℕ) (answer : ℕ) : Type 0 where
+  pub is : Entered sheet route before after answer
+  pub no-route : (answer ≡ noRoute) ↔ (1 < route)
+  pub short : (answer ≡ shortStrip) ↔ ((route ≤ 1) × (length before < 38))
+  pub accepted : (answer ≡ done) ↔ ((route ≤ 1) × (38 ≤ length before) × SheetOfSound sheet)
+  pub fault : route ≤ 1 → 38 ≤ length before → answer ≡ sheetAt sheet .answer
+  pub own : among answer entryAnswers ≡ true
+  -- "not one byte of the lent answer strip moves"; "Longer strips keep the rest." (document 01)
+  pub strip : (answer ≡ done → ⊥) → after ≡ before
+  pub rest : drop 38 after ≡ drop 38 before
+  pub names : answer ≡ done → OfSheet sheet (λ t. NamesTheStuck t (verdictIn after))
+  pub never : answer ≡ done → OfSheet sheet (λ t. MeansNever t (verdictIn after))

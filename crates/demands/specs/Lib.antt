@@ -1,4 +1,5 @@
 pub mod Series
+pub mod PhaserDeadlocks
 pub mod Moves
 pub mod Demands
 pub mod OneAnswer

@@ -1,56 +1,69 @@
--- Document 00, demand 2: "Calls move the table by that paper's rules, within the limits, additions and one narrowing that document 01 states." Each field has a
--- rule of figure 3 (`hall`'s Rules) and beside it what document 01 adds, and nothing else.
+-- Document 00, demand 2: "Calls move the table by that paper's rules, within the limits, additions and one narrowing that document 01 states." Of a call c on a
+-- table t and what was handed back, r: each field has a kind's rule of figure 3 (`hall`'s Rules), and beside it what document 01 adds, and nothing else.
 use mathlib.Core.Path.{_≡_}
 use mathlib.Core.Logic.{_↔_}
-use mathlib.Core.Bool.{true}
-use mathlib.Core.Option.{some}
-use Prim.Native.Nat.{ℕ, _<_, _≤_}
-use Rattle.hall.specs.Answers.{waitPassed, nowBlocked}
-use Rattle.hall.specs.Calls.{callOf}
-use Rattle.hall.specs.Rules.{Phaser, PhaserMap, Await, NewP, Reg, Dereg, Arrv, AwaitN, AwaitOwn, phasersOf}
+use mathlib.Core.Bool.{true, false}
+use mathlib.Core.Option.{none}
+use Prim.Native.Nat.{ℕ, _+_, _<_, _≤_}
+use Rattle.hall.specs.Additions.{Runs, LowestFree, LowestUnopened, Unused, without, Behind, BehindOwn}
+use Rattle.hall.specs.Answers.{done, waitPassed, nowBlocked}
+use Rattle.hall.specs.Rules.{put, PhaserMap, NewP, Reg, Dereg, Arrv, AwaitN, AwaitOwn, phasersOf}
 use Rattle.hall.specs.Sound.{Sound}
-use Rattle.hall.specs.Table.{largestPhase, stateAt, openAt, phaseAt}
+use Rattle.hall.specs.Table.{largestPhase, stateAt, openAt, memberAt, phaseAt, event}
 use Rattle.hall.specs.Waiting.{BlockedOn}
 use Rattle.hall.specs.declared.calls.Called.{Called}
 use Rattle.hall.specs.declared.table.Event.{Event}
-use Rattle.hall.specs.declared.table.State.the-variants.{Running}
+use Rattle.hall.specs.declared.table.State.{State}
+use Rattle.hall.specs.declared.table.State.the-variants.{Free, Running, Blocked}
 use Rattle.hall.specs.declared.table.Table.{Table}
+use Rattle.demands.specs.Series.{Call}
 
--- an accepted call, and the phaser map that it leaves
-abbrev pub Moves : Called → PhaserMap → Type 0
-Moves c M′ = (c .answer < 10) × (phasersOf (c .table) ≡ M′)
+-- a call that is done, with a value and a next phaser map, exactly where the rule says so; and every task's next state
+pub record Rule (r : Called) (Where : ℕ → PhaserMap → Type 0) (state : ℕ → State) : Type 0 where
+  pub moves : (v : ℕ) (M′ : PhaserMap) → ((r .answer ≡ done) × (r .value ≡ v) × (phasersOf (r .table) ≡ M′)) ↔ Where v M′
+  pub states : r .answer ≡ done → (k : ℕ) → stateAt (r .table) k ≡ state k
 
--- the table is sound (44) and the caller runs (10, 12)
-abbrev pub Runs : Table → ℕ → Type 0
-Runs t a = Sound t × (stateAt t a ≡ Running)
+-- a wait of task a on event (p, n): "answer 1 and nothing changes if ..; else answer 2 and the caller is blocked on that event"
+pub record Waits (t : Table) (a p n : ℕ) (r : Called) (Passes Blocks : Type 0) : Type 0 where
+  pub passes : (r .answer ≡ waitPassed) ↔ Passes
+  pub unchanged : r .answer ≡ waitPassed → (r .value ≡ 0) × (r .table ≡ t)
+  pub blocks : (r .answer ≡ nowBlocked) ↔ Blocks
+  pub phasers : r .answer ≡ nowBlocked → (r .value ≡ 0) × (phasersOf (r .table) ≡ phasersOf t)
+  pub states : r .answer ≡ nowBlocked → (k : ℕ) → stateAt (r .table) k ≡ put (stateAt t) a (Blocked (event p n)) k
 
--- "lowest unopened number", of sixteen (16)
-abbrev pub LowestUnopened : Table → ℕ → Type 0
-LowestUnopened t q = (q < 16) × ((r : ℕ) → r < q → openAt t r ≡ true)
-
--- [await-n] can't step: the phaser is there, and not every member has phase n
-abbrev pub Behind : PhaserMap → ℕ → ℕ → Type 0
-Behind M p n = (P : Phaser) × (M p ≡ some P) × (Await P n → ⊥)
-
-pub record ByRules (t : Table) : Type 0 where
-  -- open phaser is [new-p], at the lowest number
-  pub open-phaser : (a p o q : ℕ) (M′ : PhaserMap)
-      → (Moves (callOf t 2 a p o) M′ × (callOf t 2 a p o .value ≡ q)) ↔ (Runs t a × NewP a q (phasersOf t) M′ × LowestUnopened t q)
-  -- admit is [reg]; "The narrowing: 20, since the source lets any non-member be admitted and we want a running one"
-  pub admit : (a p b : ℕ) (M′ : PhaserMap) → Moves (callOf t 4 a p b) M′ ↔ (Runs t a × Reg a b p (phasersOf t) M′ × (stateAt t b ≡ Running))
-  -- leave is [dereg]
-  pub leave : (a p o : ℕ) (M′ : PhaserMap) → Moves (callOf t 5 a p o) M′ ↔ (Runs t a × Dereg a p (phasersOf t) M′)
-  -- arrive is [arrv], up to phase 65,535
-  pub arrive : (a p o : ℕ) (M′ : PhaserMap) → Moves (callOf t 6 a p o) M′ ↔ (Runs t a × Arrv a p (phasersOf t) M′ × (phaseAt t a p < largestPhase))
-  -- a wait at one's own phase passes where [await] can step, and blocks where only await(P, n) fails
-  pub wait-passes : (a p o : ℕ) → (callOf t 7 a p o .answer ≡ waitPassed) ↔ (Runs t a × AwaitOwn a p (phasersOf t))
-  pub wait-blocks : (a p o : ℕ) → (callOf t 7 a p o .answer ≡ nowBlocked)
-      ↔ (Runs t a × ((P : Phaser) × (n : ℕ) × (phasersOf t p ≡ some P) × (P a ≡ some n) × Behind (phasersOf t) p n))
-  -- so does one at a stated phase, by [await-n], up to phase 65,535
-  pub wait-at-passes : (a p n : ℕ) → (callOf t 8 a p n .answer ≡ waitPassed) ↔ (Runs t a × AwaitN p n (phasersOf t) × (n ≤ largestPhase))
-  pub wait-at-blocks : (a p n : ℕ) → (callOf t 8 a p n .answer ≡ nowBlocked) ↔ (Runs t a × Behind (phasersOf t) p n × (n ≤ largestPhase))
-  -- release, "a call of its own", is [await-n] for a task that is blocked there
-  pub release : (a p o : ℕ) → (callOf t 9 a p o .answer < 10)
-      ↔ (Sound t × ((e : Event) × BlockedOn t a e × AwaitN (e .phaser .0) (e .phase .0) (phasersOf t)))
-  -- neither moves the phasers
-  pub stays : (kind a p o : ℕ) → 7 ≤ kind → phasersOf (callOf t kind a p o .table) ≡ phasersOf t
+pub record ByRules (t : Table) (c : Call) (r : Called) : Type 0 where
+  -- 0 is added: "lowest free number becomes running; value that number"
+  pub open-task : c .kind ≡ 0 → Rule r (λ v M′. Sound t × LowestFree t v × (M′ ≡ phasersOf t)) (put (stateAt t) (r .value) Running)
+  -- 1 is added: "leaves every phaser, number free"
+  pub end-task : c .kind ≡ 1
+      → Rule r (λ v M′. Runs t (c .task) × (v ≡ 0) × (M′ ≡ without (c .task) (phasersOf t))) (put (stateAt t) (c .task) Free)
+  -- 2, open phaser, is [new-p] at the lowest number; "value that number"
+  pub open-phaser : c .kind ≡ 2 → Rule r (λ v M′. Runs t (c .task) × NewP (c .task) v (phasersOf t) M′ × LowestUnopened t v) (stateAt t)
+  -- 3 is added: "not open any more"
+  pub close-phaser : c .kind ≡ 3
+      → Rule r (λ v M′. Sound t × Unused t (c .phaser) × (v ≡ 0) × (M′ ≡ put (phasersOf t) (c .phaser) none)) (stateAt t)
+  -- 4, admit, is [reg]; "value that phase"; "The narrowing: 20, since the source lets any non-member be admitted and we want a running one"
+  pub admit : c .kind ≡ 4
+      → Rule r (λ v M′. Runs t (c .task) × Reg (c .task) (c .other) (c .phaser) (phasersOf t) M′ × (stateAt t (c .other) ≡ Running)
+      × (v ≡ phaseAt t (c .task) (c .phaser))) (stateAt t)
+  -- 5, leave, is [dereg]
+  pub leave : c .kind ≡ 5 → Rule r (λ v M′. Runs t (c .task) × Dereg (c .task) (c .phaser) (phasersOf t) M′ × (v ≡ 0)) (stateAt t)
+  -- 6, arrive, is [arrv], up to phase 65,535; "value the new phase"
+  pub arrive : c .kind ≡ 6
+      → Rule r (λ v M′. Runs t (c .task) × Arrv (c .task) (c .phaser) (phasersOf t) M′ × (phaseAt t (c .task) (c .phaser) < largestPhase)
+      × (v ≡ phaseAt t (c .task) (c .phaser) + 1)) (stateAt t)
+  -- 7: a wait at one's own phase passes where [await] can step, and blocks where only await(P, n) fails
+  pub wait : c .kind ≡ 7
+      → Waits t (c .task) (c .phaser) (phaseAt t (c .task) (c .phaser)) r (Runs t (c .task) × AwaitOwn (c .task) (c .phaser) (phasersOf t))
+      (Runs t (c .task) × BehindOwn (phasersOf t) (c .task) (c .phaser))
+  -- 8: so does one at a stated phase, by [await-n], up to phase 65,535
+  pub wait-at : c .kind ≡ 8
+      → Waits t (c .task) (c .phaser) (c .other) r (Runs t (c .task) × AwaitN (c .phaser) (c .other) (phasersOf t) × (c .other ≤ largestPhase))
+      (Runs t (c .task) × Behind (phasersOf t) (c .phaser) (c .other) × (c .other ≤ largestPhase))
+  -- "A wait on a phaser with no members passes."
+  pub no-members : c .kind ≡ 8 → Runs t (c .task) → openAt t (c .phaser) ≡ true → ((k : ℕ) → memberAt t k (c .phaser) ≡ false)
+      → c .other ≤ largestPhase → r .answer ≡ waitPassed
+  -- 9: release, "a call of its own", is [await-n] for a task that is blocked there
+  pub release : c .kind ≡ 9
+      → Rule r (λ v M′. Sound t × ((e : Event) × BlockedOn t (c .task) e × AwaitN (e .phaser .0) (e .phase .0) (phasersOf t)) × (v ≡ 0)
+      × (M′ ≡ phasersOf t)) (put (stateAt t) (c .task) Running)

@@ -4,15 +4,19 @@ use mathlib.Core.Path.{_≡_}
 use mathlib.Core.Logic.{_⊎_}
 use mathlib.Core.List.{List, [], _∷_, _++_}
 use Prim.Native.Nat.{ℕ, _<_}
-use Rattle.deadlock.specs.Waiting.{Stuck}
+use Rattle.sets.specs.Set.{Has}
+use Rattle.deadlock.specs.Waiting.{TotallyDeadlocked}
 use Rattle.hall.specs.Calls.{callOf}
 use Rattle.hall.specs.Waiting.{BlockedOn, Impedes}
 use Rattle.hall.specs.declared.calls.Called.{Called}
 use Rattle.hall.specs.declared.table.Table.{Table}
 
--- some totally deadlocked set holds task k
-abbrev pub StuckIn : Table → ℕ → Type 1
-StuckIn t k = Stuck (BlockedOn t) (Impedes t) k
+-- "A task is named when some totally deadlocked set holds it" (document 01, 'Stuck'). A set of tasks is a number, bit k for task k; a law has the same of any
+-- predicate on tasks in its place
+pub record StuckIn (t : Table) (k : ℕ) : Type 0 where
+  pub set : ℕ
+  pub deadlocked : TotallyDeadlocked (BlockedOn t) (Impedes t) (Has set)
+  pub holds : Has set k
 
 -- a call: its kind and the numbers that come with it, of any size
 pub record Call : Type 0 where
@@ -20,6 +24,9 @@ pub record Call : Type 0 where
   pub task : ℕ
   pub phaser : ℕ
   pub other : ℕ
+
+abbrev pub call : ℕ → ℕ → ℕ → ℕ → Call
+call kind task phaser other = record { kind = kind; task = task; phaser = phaser; other = other }
 
 -- its answer, its value and the next table
 abbrev pub made : Table → Call → Called
@@ -50,7 +57,7 @@ Never t k = (calls : List Call) → Series t calls → Contains k calls → ⊥
 
 -- "a task left off the list must have a way to go on": a series that ends in its release
 abbrev pub release : ℕ → Call
-release k = record { kind = 9; task = k; phaser = 0; other = 0 }
+release k = call 9 k 0 0
 
 pub record WayOn (t : Table) (k : ℕ) : Type 0 where
   pub calls : List Call

@@ -1,1 +1,5 @@
-// The customer's three demands as theorems over the promises below. No code of its own.
+// Where the customer's demands meet the code: each function here hands on what a public function below it hands back, and promises of it the sentences of
+// document 00 (specs/Demands.antt, specs/Moves.antt). Whoever weakens a promise below fails here.
+pub mod calls;
+pub mod judging;
+pub mod sheets;

@@ -1,0 +1,104 @@
+-- Each public promise allows one answer.
+use mathlib.Core.Path.{_≡_, ap, sym, _∙_}
+use Prim.Native.Nat.{ℕ}
+use denote.Ref.{now}
+use Rattle.sets.specs.Set.{Has}
+use Rattle.sets.proofs.One.{has-one, lowest-one}
+use Rattle.sets.proofs.Widths.{same-members}
+use Rattle.deadlock.specs.Ring.{Next}
+use Rattle.deadlock.specs.Walk.{Row}
+use Rattle.deadlock.proofs.One.{named-one, ring-in-one}
+use Rattle.judge.proofs.Named.{task-one, event-one}
+use Rattle.judge.proofs.One.{judged-one}
+use Rattle.sheet.specs.Fields.{Sheet}
+use Rattle.sheet.proofs.Theorems.{one-number}
+use Rattle.mollavisce.proofs.One.{sheet-judged-one, entered-one}
+use Rattle.demands.specs.OneAnswer.{One, OneLent, OneAnswer}
+use Rattle.demands.proofs.calls.call.Reads as own·call
+use Rattle.demands.proofs.judging.judge.Reads as own·judge
+use Rattle.demands.proofs.judging.verdicts.Reads as own·verdicts
+use Rattle.demands.proofs.judging.routes.Reads as own·routes
+use Rattle.demands.proofs.sheets.read.Reads as own·read
+use Rattle.demands.proofs.sheets.verdict_of.Reads as own·verdict-of
+use Rattle.demands.proofs.sheets.sheet_verdict.Reads as own·sheet-verdict
+
+-- two that equal a third
+both : {A : Type 0} {x y z : A} → x ≡ z → y ≡ z → x ≡ y
+both p q = p ∙ sym q
+
+pub one-answer : OneAnswer
+one-answer = record {
+  has = λ κ a r r′ e e′. has-one (Has (a .0) (a .1 .0)) r r′;
+  only = λ κ a r r′ e e′. same-members _ r r′;
+  common = λ κ a r r′ e e′. same-members _ r r′;
+  less = λ κ a r r′ e e′. same-members _ r r′;
+  take = λ κ a r r′ e e′. same-members _ r r′;
+  size = λ κ a r r′ e e′. both;
+  lowest = λ κ a r r′ e e′. lowest-one (a .0) r r′;
+  named = λ κ a r r′ e e′. named-one (Row (a .0)) r r′;
+  ring = λ κ a r r′ e e′. ring-in-one (Has (a .1 .0)) (Next (a .0)) r r′;
+  is-free = λ κ a r r′ e e′. both;
+  is-live = λ κ a r r′ e e′. both;
+  is-running = λ κ a r r′ e e′. both;
+  is-blocked = λ κ a r r′ e e′. both;
+  fresh = λ κ a r r′ e e′. both;
+  shaped = λ κ a r r′ e e′ p q. both (p .0) (q .0);
+  state-at = λ κ a r r′ e e′. both;
+  open-at = λ κ a r r′ e e′. both;
+  member-at = λ κ a r r′ e e′. both;
+  phase-at = λ κ a r r′ e e′ p q. ap (λ (n : ℕ). record { 0 = n }) (both p q);
+  is-sound = λ κ a r r′ e e′. both;
+  behind = λ κ a r r′ e e′. both;
+  reached = λ κ a r r′ e e′. both;
+  open-task = λ κ a r r′ e e′. both;
+  end-task = λ κ a r r′ e e′. both;
+  open-phaser = λ κ a r r′ e e′. both;
+  close-phaser = λ κ a r r′ e e′. both;
+  admit = λ κ a r r′ e e′. both;
+  leave = λ κ a r r′ e e′. both;
+  arrive = λ κ a r r′ e e′. both;
+  wait = λ κ a r r′ e e′. both;
+  wait-at = λ κ a r r′ e e′. both;
+  release = λ κ a r r′ e e′. both;
+  call = λ κ a r r′ e e′. both;
+  task-route = λ κ a r r′ e e′. task-one (a .0) r r′;
+  event-route = λ κ a r r′ e e′. event-one (a .0) r r′;
+  judge = λ κ a r r′ e e′. judged-one (a .0) (a .1 .0) r r′;
+  nobody = λ κ a r r′ e e′. both;
+  plain = λ κ a r r′ e e′ p q. one-number r r′ (both p q);
+  number = λ κ a r r′ e e′ p q. one-number r r′ (both p q);
+  rising = λ κ a r r′ e e′ p q. one-number r r′ (both p q);
+  read = λ κ a r r′ e e′ p q. (ap (λ (s : Sheet). s .table) (both p q), ap (λ (s : Sheet). s .answer) (both p q));
+  verdict-of = λ κ a r r′ e e′. sheet-judged-one _ (a .1 .0) r r′;
+  sheet-verdict = λ κ a r r′ e e′. entered-one _ (a .1 .0) _ r r′ _ _;
+}
+
+-- ---- the functions of this crate, which hand on what others hand back
+pub call-one : One own·call.Learnt
+call-one κ a r r′ e e′ p q = both (p .0 .is) (q .0 .is)
+
+pub judge-one : One own·judge.Learnt
+judge-one κ a r r′ e e′ p q = judged-one (a .0) (a .1 .0) r r′ (p .is) (q .is)
+
+pub verdicts-one : One own·verdicts.Learnt
+verdicts-one κ a r r′ e e′ p q =
+    let tasks = judged-one (a .0) 0 (r .tasks) (r′ .tasks) (p .1 .is) (q .1 .is) in
+    let events = sym (p .0) ∙ tasks ∙ q .0 in
+    λ i. record { tasks = tasks i; events = events i }
+
+pub routes-one : One own·routes.Learnt
+routes-one κ a r r′ e e′ p q =
+    let tasks = same-members _ (r .tasks) (r′ .tasks) (p .stuck) (q .stuck) in
+    let events = sym (p .same) ∙ tasks ∙ q .same in
+    λ i. record { tasks = tasks i; events = events i }
+
+pub read-one : OneLent (λ κ e. now (e .1 .0)) own·read.Learnt
+read-one κ a r r′ e e′ p q =
+    let same = both (p .is) (q .is) in
+    (ap (λ (s : Sheet). s .table) same, ap (λ (s : Sheet). s .answer) same)
+
+pub verdict-of-one : One own·verdict-of.Learnt
+verdict-of-one κ a r r′ e e′ p q = sheet-judged-one _ (a .1 .0) r r′ (p .is) (q .is)
+
+pub sheet-verdict-one : OneLent (λ κ e. now (e .1 .1 .0)) own·sheet-verdict.Learnt
+sheet-verdict-one κ a r r′ e e′ p q = entered-one _ (a .1 .0) _ r r′ _ _ (p .is) (q .is)
