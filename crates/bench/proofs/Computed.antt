@@ -34,8 +34,8 @@ use Rattle.judge.proofs.One.{routes-agree}
 use Rattle.sets.proofs.Masks.{maskOf}
 use Rattle.judge.proofs.Twins.{rowsOf, namedIn, ringIn, roundIn, judgeOf, judgeOf-judged}
 use Rattle.sheet.specs.Number.{plainAt, numberAt}
-use Rattle.bench.specs.Bench.{Row, judged, called, read, statedOf, after, Holds, Each, call, openTask, p4, p7, rows}
-use Rattle.demands.specs.Series.{Call, made, Series}
+use Rattle.bench.specs.Bench.{Row, judged, called, read, statedOf, after, Holds, Each, openTask, p4, p7, figure2, section2-4, example4-1, example4-1-before, example4-2, example4-3, rows}
+use Rattle.demands.specs.Series.{Call, call, made, Series}
 
 -- ---- P11
 -- the first n tasks run
@@ -155,11 +155,11 @@ abbrev _then_ : {A B : Type 0} → A → B → A × B
 x then y = (x, y)
 
 computed : Each Computes rows
-unfolding rows p4 p7 statedOf judgeOf soundOf entriesSound statesSound every stateAt openAt memberAt phaseAt freshTable withState withEntry withOpen namedIn namedOf clear rowsOf places maskOf impedesOf eventOf roundIn ringIn ringOf nextsOf ringFrom stepOf goOf lowOf onceOf trailingZeros size callOf arriveOf waitAtOf ruled refusalOf arriveTests waitAtTests memberTests running numberAt plainAt
+unfolding rows p4 p7 figure2 section2-4 example4-1 example4-1-before example4-2 example4-3 statedOf judgeOf soundOf entriesSound statesSound every stateAt openAt memberAt phaseAt freshTable withState withEntry withOpen namedIn namedOf clear rowsOf places maskOf impedesOf eventOf roundIn ringIn ringOf nextsOf ringFrom stepOf goOf lowOf onceOf trailingZeros size callOf arriveOf waitAtOf ruled refusalOf arriveTests waitAtTests memberTests running numberAt plainAt
 computed =
     refl then refl then refl then refl then refl then refl then refl then refl then refl then (tt, refl, refl) then (tt, refl, refl) then (tt, refl, refl)
-    then p11-full then p11-next then refl then refl then refl then refl then tt
+    then p11-full then p11-next then refl then refl then refl then refl then refl then refl then refl then refl then refl then refl then tt
 
--- P1 to P12
+-- P1 to P12, and the paper's states
 pub bench : Each Holds rows
 bench = all-hold rows computed

@@ -1,4 +1,4 @@
--- Document 01, 'Bench cases': "P1 to P12 form one table, proved by one statement over it."
+-- Document 01, 'Bench cases': "P1 to P12 form one table, proved by one statement over it." After them the states of source document 000's own examples.
 use mathlib.Core.Path.{_≡_}
 use mathlib.Core.Bool.{true}
 use mathlib.Core.List.{List, [], _∷_, _++_}
@@ -14,7 +14,7 @@ use Rattle.judge.specs.declared.verdict.Verdict.{Verdict}
 use Rattle.sheet.specs.Answers.{needlessGroup, tooLarge}
 use Rattle.sheet.specs.Got.{Got, value, refused}
 use Rattle.sheet.specs.Number.{numberAt}
-use Rattle.demands.specs.Series.{Call, made, Series}
+use Rattle.demands.specs.Series.{Call, call, made, Series}
 
 -- ---- what a row states
 pub data Row : Type 0 where
@@ -64,9 +64,6 @@ runs t k = withState t k Running
 abbrev pub on : Table → ℕ → ℕ → ℕ → Table
 on t p k n = withEntry (withOpen t p true) k p true n
 
-abbrev pub call : ℕ → ℕ → ℕ → ℕ → Call
-call kind task phaser other = record { kind = kind; task = task; phaser = phaser; other = other }
-
 abbrev pub openTask : Call
 openTask = call 0 0 0 0
 
@@ -79,6 +76,35 @@ p4 = on (on (on (on (waits (waits freshTable 0 0 1) 1 1 1) 0 0 1) 0 1 0) 1 0 0) 
 
 unfoldable pub p7 : Table
 p7 = on (on (on (on (on (on (runs (waits (waits freshTable 0 0 2) 1 1 1) 2) 0 0 2) 0 1 2) 0 2 0) 1 0 0) 1 1 1) 1 2 0
+
+-- ---- source document 000: its task t3 is task 3 here; its phasers a, p and p_c are phaser 0, b, q and p_f phaser 1
+-- figure 2: t4 waits on a³ and t5 on b¹; t4 has reached a³ and b⁰, t5 a¹ and b¹
+unfoldable pub figure2 : Table
+figure2 = on (on (on (on (waits (waits freshTable 4 0 3) 5 1 1) 0 4 3) 0 5 1) 1 4 0) 1 5 1
+
+-- section 2.4, the deadlock-free code: t1 waits on a² and t2 on b¹, each a member of both; t3, a member of both at phase 0, runs
+unfoldable pub section2-4 : Table
+section2-4 = on (on (on (on (on (on (runs (waits (waits freshTable 1 0 2) 2 1 1) 3) 0 1 2) 0 2 2) 0 3 0) 1 1 0) 1 2 1) 1 3 0
+
+-- example 4.1: p: t1 at 2, t2 at 0, t3 at 1; q: t1 at 0, t2 at 1; t1 waits on p², t2 on q¹
+abbrev pub phasers4-1 : Table → Table
+phasers4-1 t = on (on (on (on (on (waits (waits t 1 0 2) 2 1 1) 0 1 2) 0 2 0) 0 3 1) 1 1 0) 1 2 1
+
+-- with t3 at await(p), so on p¹; and "where t1 and t2 have blocked but t3 has not"
+unfoldable pub example4-1 : Table
+example4-1 = phasers4-1 (waits freshTable 3 0 1)
+
+unfoldable pub example4-1-before : Table
+example4-1-before = phasers4-1 (runs freshTable 3)
+
+-- example 4.2: t1 has p⁰ and waits on p¹
+unfoldable pub example4-2 : Table
+example4-2 = on (waits freshTable 1 0 1) 0 1 0
+
+-- example 4.3: p_c: t1, t2, t3 at 1, t0 at 0; p_f: t1, t2, t3 at 0, t0 at 1; t0 waits on p_f¹, the others on p_c¹
+unfoldable pub example4-3 : Table
+example4-3 =
+    on (on (on (on (on (on (on (on (waits (waits (waits (waits freshTable 0 1 1) 1 0 1) 2 0 1) 3 0 1) 0 1 1) 0 2 1) 0 3 1) 0 0 0) 1 1 0) 1 2 0) 1 3 0) 1 0 1
 
 -- ---- the table
 unfoldable pub rows : List Row
@@ -113,4 +139,11 @@ rows =
     ∷ read (255 ∷ 255 ∷ 3 ∷ []) largestPhase (value 65535 3)
     ∷ read (128 ∷ 0 ∷ []) largestPhase (refused needlessGroup)
     ∷ read (128 ∷ 128 ∷ 4 ∷ []) largestPhase (refused tooLarge)
+    -- source document 000's examples: what it calls deadlocked is named, what it calls deadlock-free is not
+    ∷ judged figure2 (4 ∷ 5 ∷ []) (4 ∷ 5 ∷ [])
+    ∷ judged section2-4 [] []
+    ∷ judged example4-1 (1 ∷ 2 ∷ 3 ∷ []) (1 ∷ 2 ∷ [])
+    ∷ judged example4-1-before (1 ∷ 2 ∷ []) (1 ∷ 2 ∷ [])
+    ∷ judged example4-2 (1 ∷ []) (1 ∷ [])
+    ∷ judged example4-3 (0 ∷ 1 ∷ 2 ∷ 3 ∷ []) (0 ∷ 1 ∷ [])
     ∷ []
