@@ -113,8 +113,8 @@ impl Table {
             return self.refused(refusal);
         }
         let left = self.without_entries(task);
-        let next = left.with_state(task, State::Free);
-        next.called(DONE, 0)
+        let ended = left.with_state(task, State::Free);
+        ended.called(DONE, 0)
     }
 
     pub fn open_phaser(self, task: TaskNo) -> Called
@@ -140,8 +140,8 @@ impl Table {
         if refusal != DONE {
             return self.refused(refusal);
         }
-        let next = self.with_open(phaser, false);
-        next.called(DONE, 0)
+        let closed = self.with_open(phaser, false);
+        closed.called(DONE, 0)
     }
 
     pub fn admit(self, caller: TaskNo, phaser: PhaserNo, target: TaskNo) -> Called
@@ -163,8 +163,8 @@ impl Table {
         if refusal != DONE {
             return self.refused(refusal);
         }
-        let next = self.with_entry(task, phaser, false, Phase(0));
-        next.called(DONE, 0)
+        let gone = self.with_entry(task, phaser, false, Phase(0));
+        gone.called(DONE, 0)
     }
 
     pub fn arrive(self, task: TaskNo, phaser: PhaserNo) -> Called
@@ -222,8 +222,8 @@ impl Table {
         if refusal != DONE {
             return self.refused(refusal);
         }
-        let next = self.with_state(task, State::Running);
-        next.called(DONE, 0)
+        let awake = self.with_state(task, State::Running);
+        awake.called(DONE, 0)
     }
 
     // A call by the number of its kind. `other` is the target of an admit, or the stated phase of a wait.

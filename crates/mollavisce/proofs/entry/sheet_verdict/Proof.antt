@@ -1,5 +1,5 @@
 -- 41, then 40, both with the strip as it was; then the verdict's answer, and its bytes where that is 0.
-use mathlib.Core.Path.{refl, sym}
+use mathlib.Core.Path.{_≡_, refl, sym}
 use native.Mathlib.Omega.{arith}
 use borrow.Author.Needs.{needs}
 use borrow.Author.Tests.{eq-eqb, ne-eqb}
@@ -31,13 +31,16 @@ unfolding stripAfter
 returns-3 c = record {
   no-route = λ l. absurd (omega (arith, l, c .before .before .before .if1 .left));
   short = λ _ l. absurd (omega (arith, l, c .before .before .if2 .left));
-  judged = λ _ _. (c .before .verdict-of .result, c .before .verdict-of .ensures, refl, rw (ne-eqb _ done (c .if3 .taken)) refl);
+  judged = λ _ _.
+      let v = c .before .verdict-of in
+      let refused : v .result .answer ≡ done → ⊥ = λ e. omega (arith, e, c .if3 .taken) in
+      (v .result, v .ensures, refl, rw (ne-eqb (v .result .answer) done refused) refl);
 }
 
 lay-requires : tie.Need-lay-requires
 lay-requires c κs =
     let v = c .before .before .verdict-of in
-    let fits = sheet-fits _ _ (v .result) (v .ensures) (c .before .if3 .left) in
+    let fits = sheet-fits _ _ (v .result) (v .ensures) (omega (arith, c .before .if3 .left)) in
     (search needs, fits .count, fits .ring-length)
 
 same-length : tie.Need-same-length
@@ -47,7 +50,7 @@ returns-4 : tie.Need-returns-4
 unfolding stripAfter
 returns-4 c =
     let v = c .before .before .before .before .before .verdict-of in
-    let answered = c .before .before .before .before .if3 .left in
+    let answered : v .result .answer ≡ done = omega (arith, c .before .before .before .before .if3 .left) in
     record {
       no-route = λ l. absurd (omega (arith, l, c .before .before .before .before .before .before .before .if1 .left));
       short = λ _ l. absurd (omega (arith, l, c .before .before .before .before .before .before .if2 .left));

@@ -1,6 +1,16 @@
+use mathlib.Core.Path.{_≡_, ap, sym, _∙_}
+use mathlib.Core.List.{List}
+use Prim.Native.Nat.{ℕ}
+use native.Mathlib.Omega.{arith}
 use borrow.Author.Needs.{needs}
 use borrow.Author.Tests.{eq-eqb, ne-eqb}
-use Rattle.sheet.specs.Fields.{headAt}
+use Rattle.sheet.specs.Answers.{unknown}
+use Rattle.sheet.specs.Fields.{listsAt, headAt}
+use Rattle.sheet.specs.Got.{value, refused}
+use Rattle.sheet.specs.Number.{plainAt}
+use Rattle.sheet.specs.Places.{placed}
+use Rattle.sheet.specs.declared.reader.Place.{Place}
+use Rattle.sheet.proofs.Onward.{number-read}
 use Rattle.sheet.proofs.reader.head_at.Statement.{statement}
 use Rattle.sheet.proofs.reader.head_at.Tie as tie
 
@@ -26,16 +36,28 @@ returns c = rw (c .no-head .ensures, c .before .after .ensures, ← c .before .b
 no-head-requires-2 : tie.Need-no-head-requires-2
 no-head-requires-2 c κs = search needs
 
-returns-2 : tie.Need-returns-2
+-- a version was read, and it is 1; or it is not
+head-known : (s : List ℕ) (version first : ℕ) → plainAt s 0 ≡ value version first → version ≡ 1 → headAt s ≡ listsAt s first
 unfolding headAt
-returns-2 c = rw (c .no-head2 .ensures, ← c .before .before .before .before .before .plain .ensures, c .before .before .before .number .given .1, ne-eqb _ _ (c .before .if1 .taken))
+head-known s version first e one = rw (e, eq-eqb version 1 one)
+
+head-unknown : (s : List ℕ) (version first : ℕ) → plainAt s 0 ≡ value version first → (version ≡ 1 → ⊥) → headAt s ≡ refused unknown
+unfolding headAt
+head-unknown s version first e other = rw (e, ne-eqb version 1 other)
+
+returns-2 : tie.Need-returns-2
+returns-2 c =
+    let read = number-read (c .before .before .before .before .before .plain .ensures) (c .before .before .before .number .given .1) in
+    ap (λ (p : Place). placed p (c .no-head2 .result .head)) (c .no-head2 .ensures)
+    ∙ sym (head-unknown _ _ _ read (λ e. omega (arith, e, c .before .if1 .taken)))
 
 lists-at-requires : tie.Need-lists-at-requires
 lists-at-requires c κs = search needs
 
 returns-3 : tie.Need-returns-3
-unfolding headAt
-returns-3 c = rw (← c .before .before .before .before .before .plain .ensures, c .before .before .before .number .given .1, eq-eqb _ _ (c .before .if1 .left)) (c .lists-at .ensures)
+returns-3 c =
+    let read = number-read (c .before .before .before .before .before .plain .ensures) (c .before .before .before .number .given .1) in
+    c .lists-at .ensures ∙ sym (head-known _ _ _ read (omega (arith, c .before .if1 .left)))
 
 pub head-at-spec : {M : Type 1} → statement M
 head-at-spec =
