@@ -110,14 +110,6 @@ std::uint32_t read(const std::uint8_t *sheet, std::size_t length, Table &table) 
     return reader.sheet(table) ? 0 : reader.refusal;
 }
 
-std::uint32_t kept_phase(const std::uint8_t *sheet, std::size_t length, std::uint64_t task, std::uint64_t phaser) {
-    Table table;
-    if (read(sheet, length, table) != 0 || task > 31 || phaser > 15 || table.task[task].state == State::free ||
-        !table.member[task][phaser])
-        return largest_phase + 1;
-    return table.phase[task][phaser];
-}
-
 std::size_t write(const Table &table, std::uint8_t *sheet) {
     std::uint32_t phasers = 0, tasks = 0;
     for (bool open : table.open)

@@ -30,10 +30,6 @@ struct Verdict {
 // Reads into a fresh table. 0, or a refusal from 30 to 36, after which the table is not to be used.
 std::uint32_t read(const std::uint8_t *sheet, std::size_t length, Table &table);
 
-// The phase that a live task keeps at a phaser of which it is a member; 65,536 where the sheet is refused or has no
-// such membership.
-std::uint32_t kept_phase(const std::uint8_t *sheet, std::size_t length, std::uint64_t task, std::uint64_t phaser);
-
 // The written form of a table, at most 2,291 bytes; the value is its length.
 std::size_t write(const Table &table, std::uint8_t *sheet);
 
