@@ -1,17 +1,14 @@
 #!/usr/bin/env python3
-"""Document 01 in plain Python: a model that shares nothing with the library, for outputs to compare with.
+"""Document 01 in plain Python: a model that shares nothing with the library, for outputs to compare with. `host/run` runs all of it.
 
-  model.py verdict < SHEET       what `sheetverdict` prints
-  model.py odd-numbers           the calls of the odd-numbers run, with answers and values
-  model.py sheets                the sheets of the sheets run, with verdicts
-  model.py vectors SEED COUNT    random and damaged sheets: sheet, answer and strip, in hex (for `check -`)
-  model.py samples FOLDER        judges every *.sheet there
   model.py test                  the bench cases, and the judge against every set of tasks
+  model.py odd-numbers           calls, with answers and values: what `oddnumbers` must print
+  model.py sheets                damaged sheets, with verdicts: what `damaged_sheets` must print
+  model.py vectors SEED COUNT    random and damaged sheets: sheet, answer and strip, in hex (for `check -`)
 
 Sections stand in document 01's order, and quoted words are its own.
 """
 import itertools
-import os
 import random
 import sys
 
@@ -334,15 +331,6 @@ def told(strip):
     return mask, [k for k in range(TASKS) if mask >> k & 1], list(strip[6 : 6 + strip[5]])
 
 
-def verdict_lines(data):
-    answer, strip = sheet_verdict(data)
-    lines = [f"answer {answer}"]
-    if answer == 0:
-        _, named, ring = told(strip)
-        lines += ["".join([word] + [f" {k}" for k in tasks]) for word, tasks in (("named", named), ("ring", ring))]
-    return lines
-
-
 # ---- Bench cases
 
 
@@ -523,8 +511,9 @@ def test():
         assert all(answer == 0 and told(strip)[1:] == (named, ring) for answer, strip in strips), case
     assert sheet_of(P4).hex(" ") == "01 02 00 01 02 00 01 00 01 02 00 01 01 00 01 01 01 01 02 00 00 01 01"
     assert sheet_verdict(sheet_of(P4))[1] == bytes.fromhex("0300000002020001") + b"\xff" * 30
-    assert verdict_lines(sheet_of(P4)) == ["answer 0", "named 0 1", "ring 0 1"]
-    assert sheet_of(Table()).hex(" ") == "01 00 00" and verdict_lines(b"") == ["answer 30"]
+    assert sheet_of(Table()).hex(" ") == "01 00 00" and sheet_verdict(b"")[0] == 30
+    assert sheet_verdict(b"", 2, b"")[0] == 41 and sheet_verdict(b"", 0, bytes(37)) == (40, bytes(37))
+    assert sheet_verdict(sheet_of(P4), 0, bytes(40))[1][38:] == bytes(2)
     t = Table()  # P10, P11
     for _ in range(32):
         _, _, t = call(t, 0)
@@ -557,21 +546,14 @@ def test():
 
 
 def main(words):
-    if words == ["verdict"]:
-        print("\n".join(verdict_lines(sys.stdin.buffer.read())))
+    if words == ["test"]:
+        test()
     elif words in (["odd-numbers"], ["sheets"]):
         for line in {"odd-numbers": odd_numbers, "sheets": sheets}[words[0]]():
             print(*line)
     elif len(words) == 3 and words[0] == "vectors":
         for line in vectors(int(words[1]), int(words[2])):
             print(*line)
-    elif len(words) == 2 and words[0] == "samples":
-        for name in sorted(n for n in os.listdir(words[1]) if n.endswith(".sheet")):
-            with open(os.path.join(words[1], name), "rb") as file:
-                data = file.read()
-            print(f"{name}: {data.hex(' ') or 'no bytes'}: {', '.join(verdict_lines(data))}")
-    elif words == ["test"]:
-        test()
     else:
         sys.exit(__doc__)
 
