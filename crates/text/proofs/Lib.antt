@@ -1,0 +1,5 @@
+pub mod Said
+pub mod Decimals
+pub mod Lines
+pub mod Whole
+pub mod Examples
