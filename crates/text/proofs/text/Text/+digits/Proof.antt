@@ -1,5 +1,5 @@
 -- The measure is the number. Digits that hold it hold one tenth of it with one less.
-use Prim.Native.Nat.{ℕ, zero, suc, _<_}
+use Prim.Native.Nat.{ℕ, zero, suc, _/_, _^_, _<_}
 use native.Mathlib.Nat.{pow-suc}
 use native.Mathlib.Omega.{arith}
 use borrow.Author.Needs.{needs}
@@ -46,13 +46,14 @@ module _ (t : ℕ) where
   byte-requires-2 c κs = tt
 
   returns : digits-lts.Need-returns (byte-reads.Asked, byte-reads.Learnt, digits-below t, digits.Post) (digits-at t) digits.Post
-  returns c more fits = rw (digits-one more _ (c .before .if1 .taken)) (c .byte .ensures)
+  returns c more fits = rw (digits-one more (c .before .before .args .number) (omega arith)) (c .byte .ensures)
 
   returns-2 : digits-lts.Need-returns-2 (byte-reads.Asked, byte-reads.Learnt, digits-below t, digits.Post) (digits-at t) digits.Post
-  returns-2 c zero fits = absurd (omega (arith, c .before .before .if1 .left))
+  returns-2 c zero fits = absurd (omega arith)
   returns-2 c (suc more) fits =
-      rw (digits-more (suc more) _ (c .before .before .if1 .left))
-      (adds-both (c .before .digits .ensures more (omega (arith, pow-suc 10 (suc more)))) (c .byte2 .ensures))
+      let n = c .before .before .before .args .number in
+      let tenth : n / 10 < 10 ^ suc more = omega (arith, pow-suc 10 (suc more)) in
+      rw (digits-more (suc more) n (omega arith)) (adds-both (c .before .digits .ensures more tenth) (c .byte2 .ensures))
 
 pub +digits-spec : {M : Type 1} → statement M
 +digits-spec =
