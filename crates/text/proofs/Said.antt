@@ -21,6 +21,11 @@ filled-more l b h =
 same : {a b : List ℕ} {m n : ℕ} → a ≡ b → m ≡ n → _≡_ {A = Text} (record { bytes = a; length = m }) (record { bytes = b; length = n })
 same p q = λ i. record { bytes = p i; length = q i }
 
+-- so that a caller can lend the part that is said
+pub within : (l : List ℕ) → textWith l .length ≤ length (textWith l .bytes)
+unfolding textWith
+within l = rw length-append (omega arith)
+
 module _ (t : Text) where
   -- a text with one byte more, where there is room
   pub added : (b : ℕ) → t .length < 256 → Adds t (b ∷ []) (record { bytes = set (t .bytes) (t .length) b; length = t .length + 1 })

@@ -1,0 +1,93 @@
+-- The invariant: what was read lies within the buffer, whose length stays. A read that moves nothing ends the loop, so the rest falls.
+use mathlib.Core.Path.{_≡_}
+use Prim.Native.Nat.{_-_, _≤_}
+use lib.ListN.{length}
+use borrow.Author.Needs.{needs}
+use Rattle.io.proofs.Counting.{counts}
+use Rattle.sheetverdict.proofs.read_input.Statement.{statement}
+use Rattle.sheetverdict.proofs.read_input.Tie as tie
+
+abbrev Inv-loop : tie.InvT-loop
+Inv-loop bytes₀ read₀ bytes read = (read ≤ length bytes) × (length bytes ≡ length bytes₀)
+
+abbrev μ-loop : tie.MeasureT-loop
+μ-loop bytes₀ read₀ bytes read = length bytes - read
+
+loop-holds : tie.Need-loop-holds Inv-loop μ-loop
+loop-holds c = search needs
+
+sub-read : tie.Need-sub-read Inv-loop μ-loop
+sub-read c = search needs
+
+part-read-start : tie.Need-part-read-start Inv-loop μ-loop
+part-read-start c = search needs
+
+part-read-end : tie.Need-part-read-end Inv-loop μ-loop
+part-read-end c = search needs
+
+read-requires : tie.Need-read-requires Inv-loop μ-loop
+read-requires c κs = search needs
+
+same-length : tie.Need-same-length Inv-loop μ-loop
+same-length c = search needs
+
+returns : tie.Need-returns Inv-loop μ-loop
+returns c = counts _ _ (search needs)
+
+sub-count : tie.Need-sub-count Inv-loop μ-loop
+sub-count c = search needs
+
+part-count-start : tie.Need-part-count-start Inv-loop μ-loop
+part-count-start c = search needs
+
+part-count-end : tie.Need-part-count-end Inv-loop μ-loop
+part-count-end c = search needs
+
+count-requires : tie.Need-count-requires Inv-loop μ-loop
+count-requires c κs = search needs
+
+add-read : tie.Need-add-read Inv-loop μ-loop
+add-read c = search needs
+
+loop-less : tie.Need-loop-less Inv-loop μ-loop
+loop-less c = search needs
+
+loop-again : tie.Need-loop-again Inv-loop μ-loop
+loop-again c = search needs
+
+same-length-2 : tie.Need-same-length-2 Inv-loop μ-loop
+same-length-2 c = search needs
+
+returns-2 : tie.Need-returns-2 Inv-loop μ-loop
+returns-2 c = counts _ _ (search needs)
+
+same-length-3 : tie.Need-same-length-3 Inv-loop μ-loop
+same-length-3 c = search needs
+
+returns-3 : tie.Need-returns-3 Inv-loop μ-loop
+returns-3 c = counts _ _ (search needs)
+
+pub read-input-spec : {M : Type 1} → statement M
+read-input-spec =
+    tie.close
+    (tie.spec
+    Inv-loop
+    μ-loop
+    loop-holds
+    sub-read
+    part-read-start
+    part-read-end
+    read-requires
+    same-length
+    returns
+    sub-count
+    part-count-start
+    part-count-end
+    count-requires
+    add-read
+    loop-less
+    loop-again
+    same-length-2
+    returns-2
+    same-length-3
+    returns-3)
