@@ -8,8 +8,11 @@ use Rattle.sets.proofs.Widths.{same-members}
 use Rattle.deadlock.specs.Ring.{Next}
 use Rattle.deadlock.specs.Walk.{Row}
 use Rattle.deadlock.proofs.One.{named-one, ring-in-one}
+use Rattle.judge.specs.declared.verdict.Verdict.{Verdict}
 use Rattle.judge.proofs.Named.{task-one, event-one}
 use Rattle.judge.proofs.One.{judged-one}
+use Rattle.text.specs.Text.{textWith}
+use Rattle.text.specs.Verdict.{verdictText}
 use Rattle.sheet.specs.Fields.{Sheet}
 use Rattle.sheet.proofs.Theorems.{one-number}
 use Rattle.mollavisce.proofs.One.{sheet-judged-one, entered-one}
@@ -21,6 +24,7 @@ use Rattle.demands.proofs.judging.routes.Reads as own·routes
 use Rattle.demands.proofs.sheets.read.Reads as own·read
 use Rattle.demands.proofs.sheets.verdict_of.Reads as own·verdict-of
 use Rattle.demands.proofs.sheets.sheet_verdict.Reads as own·sheet-verdict
+use Rattle.demands.proofs.sheets.text_of.Reads as own·text-of
 
 -- two that equal a third
 both : {A : Type 0} {x y z : A} → x ≡ z → y ≡ z → x ≡ y
@@ -65,6 +69,7 @@ one-answer = record {
   event-route = λ κ a r r′ e e′. event-one (a .0) r r′;
   judge = λ κ a r r′ e e′. judged-one (a .0) (a .1 .0) r r′;
   nobody = λ κ a r r′ e e′. both;
+  text-of = λ κ a r r′ e e′ p q. both (p .0) (q .0);
   plain = λ κ a r r′ e e′ p q. one-number r r′ (both p q);
   number = λ κ a r r′ e e′ p q. one-number r r′ (both p q);
   rising = λ κ a r r′ e e′ p q. one-number r r′ (both p q);
@@ -102,3 +107,8 @@ verdict-of-one κ a r r′ e e′ p q = sheet-judged-one _ (a .1 .0) r r′ (p .
 
 pub sheet-verdict-one : OneLent (λ κ e. now (e .1 .1 .0)) own·sheet-verdict.Learnt
 sheet-verdict-one κ a r r′ e e′ p q = entered-one _ (a .1 .0) _ r r′ _ _ (p .is) (q .is)
+
+pub text-of-one : One own·text-of.Learnt
+text-of-one κ a r r′ e e′ p q =
+    let same = sheet-judged-one _ 0 (p .verdict) (q .verdict) (p .judged .is) (q .judged .is) in
+    both (p .is) (q .is ∙ ap (λ (v : Verdict). textWith (verdictText v)) (sym same))

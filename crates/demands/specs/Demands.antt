@@ -18,6 +18,9 @@ use Rattle.hall.specs.declared.table.Event.{Event}
 use Rattle.hall.specs.declared.table.Table.{Table}
 use Rattle.judge.specs.Verdict.{noRoute, nobody, ImpedesTask, Judged}
 use Rattle.judge.specs.declared.verdict.Verdict.{Verdict}
+use Rattle.text.specs.Text.{textWith}
+use Rattle.text.specs.Verdict.{verdictText}
+use Rattle.text.specs.declared.text.Text.{Text}
 use Rattle.sheet.specs.Answers.{sheetAnswers}
 use Rattle.sheet.specs.Fields.{hands, sheetAt}
 use Rattle.sheet.specs.Written.{sheetOf}
@@ -141,3 +144,10 @@ pub record SheetAnswered (sheet : List ℕ) (route : ℕ) (before after : List �
   pub rest : drop 38 after ≡ drop 38 before
   pub names : answer ≡ done → OfSheet sheet (λ t. NamesTheStuck t (verdictIn after))
   pub never : answer ≡ done → OfSheet sheet (λ t. MeansNever t (verdictIn after))
+
+-- the text that `sheetverdict` prints of a sheet: the lines of its verdict by route 0, whole
+pub record SheetPrinted (sheet : List ℕ) (text : Text) : Type 0 where
+  pub verdict : Verdict
+  pub judged : SheetVerdict sheet 0 verdict
+  pub is : text ≡ textWith (verdictText verdict)
+  pub whole : take (text .length) (text .bytes) ≡ verdictText verdict

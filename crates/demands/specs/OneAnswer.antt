@@ -40,6 +40,7 @@ use Rattle.judge.proofs.task_route.task_route.Reads as judge·task-route
 use Rattle.judge.proofs.event_route.event_route.Reads as judge·event-route
 use Rattle.judge.proofs.judge.judge.Reads as judge·judge
 use Rattle.judge.proofs.verdict.Verdict.nobody.Reads as judge·nobody
+use Rattle.text.proofs.verdict.text_of.Reads as text·text-of
 use Rattle.sheet.proofs.number.plain.Reads as sheet·plain
 use Rattle.sheet.proofs.number.read.Reads as sheet·number
 use Rattle.sheet.proofs.number.rising.Reads as sheet·rising
@@ -98,6 +99,8 @@ pub record OneAnswer : Type 1 where
   pub event-route : One judge·event-route.Learnt
   pub judge : One judge·judge.Learnt
   pub nobody : One judge·nobody.Learnt
+  -- text
+  pub text-of : One text·text-of.Learnt
   -- sheet
   pub plain : One sheet·plain.Learnt
   pub number : One sheet·number.Learnt

@@ -3,8 +3,8 @@ use mathlib.Core.Path.{_≡_, refl, sym, _∙_}
 use mathlib.Core.List.{List, [], _∷_, _++_, append-assoc, append-nil}
 use Prim.Native.Nat.{ℕ, suc, _+_, _-_, _≤_, _<_}
 use native.Mathlib.Omega.{arith}
-use lib.ListN.{length, replicate, set, length-append, length-take}
-use lib.Seq.{set-at, take-all, take-append-le, append-snoc}
+use lib.ListN.{length, replicate, set, take, length-append, length-take}
+use lib.Seq.{set-at, take-all, take-at, take-append-le, append-snoc}
 use Rattle.text.specs.Adding.{Adds}
 use Rattle.text.specs.Text.{textWith}
 use Rattle.text.specs.declared.text.Text.{Text}
@@ -25,6 +25,13 @@ same p q = λ i. record { bytes = p i; length = q i }
 pub within : (l : List ℕ) → textWith l .length ≤ length (textWith l .bytes)
 unfolding textWith
 within l = rw length-append (omega arith)
+
+-- what is said is all of l, where l has room
+pub said-whole : (t : Text) (l : List ℕ) → t ≡ textWith l → length l ≤ 256 → take (t .length) (t .bytes) ≡ l
+unfolding textWith
+said-whole t l e h =
+    let w = take-all 256 l h in
+    rw (e, w) (take-at l (replicate (256 - length l) 0) (length l) refl)
 
 module _ (t : Text) where
   -- a text with one byte more, where there is room

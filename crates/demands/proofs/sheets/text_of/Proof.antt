@@ -1,0 +1,26 @@
+-- The text is that of the sheet's verdict, and none of it is cut.
+use mathlib.Core.Path.{_≡_, ap, _∙_}
+use borrow.Author.Needs.{needs}
+use Rattle.text.specs.declared.text.Text.{Text}
+use Rattle.text.proofs.Said.{said-whole}
+use Rattle.demands.proofs.sheets.text_of.Statement.{statement}
+use Rattle.demands.proofs.sheets.text_of.Tie as tie
+
+verdict-of-requires : tie.Need-verdict-of-requires
+verdict-of-requires c κs = search needs
+
+text-of-requires : tie.Need-text-of-requires
+text-of-requires c κs = search needs
+
+returns : tie.Need-returns
+returns c =
+    let text = c .text-of .ensures in
+    record {
+      verdict = c .before .verdict-of .result;
+      judged = c .before .verdict-of .ensures;
+      is = text .0;
+      whole = said-whole (c .text-of .result) _ (text .0) (text .1);
+    }
+
+pub text-of-spec : {M : Type 1} → statement M
+text-of-spec = tie.close (tie.spec verdict-of-requires text-of-requires returns)
