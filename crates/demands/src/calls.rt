@@ -9,6 +9,6 @@ pub fn call(table: Table, kind: u64, task: u64, phaser: u64, other: u64) -> Call
     ensures answered { λ r. ⌜ CallAnswered table (call kind task phaser other) r ⌝ }
     ensures moves { λ r. ⌜ ByRules table (call kind task phaser other) r ⌝ }
 {
-    let shaped = table.shaped();
-    shaped.call(kind, task, phaser, other)
+    table.shaped();
+    table.call(kind, task, phaser, other)
 }

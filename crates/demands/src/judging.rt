@@ -10,8 +10,8 @@ ghost use Rattle.demands.specs.Demands.{TableJudged, RoutesAgree};
 pub fn judge(table: Table, route: u64) -> Verdict
     ensures { λ r. ⌜ TableJudged table route r ⌝ }
 {
-    let shaped = table.shaped();
-    judge::judge::judge(shaped, route)
+    table.shaped();
+    judge::judge::judge(table, route)
 }
 
 // The verdicts by both routes.

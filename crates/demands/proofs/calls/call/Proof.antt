@@ -1,5 +1,5 @@
 -- What `Table::call` hands back is the row of its kind, and over tables that code has, whose arrays have their lengths, the demands hold of that.
-use mathlib.Core.Path.{_≡_, sym, ap, _∙_, subst}
+use mathlib.Core.Path.{_≡_, sym, subst}
 use borrow.Author.Needs.{needs}
 use Rattle.hall.specs.Table.{Shaped}
 use Rattle.hall.specs.declared.calls.Called.{Called}
@@ -18,18 +18,14 @@ shaped-requires c κs = search needs
 call-requires : tie.Need-call-requires
 call-requires c κs = search needs
 
--- `lengths` is the table, as `shaped` hands it back
-hands-on : (table lengths : Table) → lengths ≡ table → Shaped table → (c : Call) (r : Called) → r ≡ made lengths c → CallAnswered table c r × ByRules table c r
-hands-on table lengths same z c r e =
-    let q = e ∙ ap (λ (t : Table). made t c) same in
-    (subst (CallAnswered table c) (sym q) (call-answered table z c), subst (ByRules table c) (sym q) (by-rules table z c))
+-- what is handed back is the row of its kind
+of-row : (t : Table) → Shaped t → (c : Call) (r : Called) → r ≡ made t c → CallAnswered t c r × ByRules t c r
+of-row t z c r e = (subst (CallAnswered t c) (sym e) (call-answered t z c), subst (ByRules t c) (sym e) (by-rules t z c))
 
 returns : tie.Need-returns
 returns c =
     let a = c .before .before .args in
-    let shaped = c .before .shaped in
-    let numbers = call (a .kind) (a .task) (a .phaser) (a .other) in
-    hands-on (a .table) (shaped .result) (shaped .ensures .0) (shaped .ensures .1) numbers (c .call .result) (c .call .ensures)
+    of-row (a .table) (c .before .shaped .ensures .1) (call (a .kind) (a .task) (a .phaser) (a .other)) (c .call .result) (c .call .ensures)
 
 pub call-spec : {M : Type 1} → statement M
 call-spec = tie.close (tie.spec shaped-requires call-requires returns)
