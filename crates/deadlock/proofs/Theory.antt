@@ -1,9 +1,8 @@
 -- Who can never go on, over any waiting: the three ways to name a task agree, deadlocked sets unite, and what keeps a stuck task stuck.
 use mathlib.Core.Path.{_≡_, refl, subst}
 use mathlib.Core.Logic.{_↔_}
-use Prim.Native.Nat.{ℕ, suc, _^_, _<_}
+use Prim.Native.Nat.{ℕ, suc}
 use Rattle.sets.specs.Set.{Has}
-use Rattle.sets.proofs.Members.{same-set}
 use Rattle.deadlock.specs.Waiting.{TaskEdge, TaskNamed, EventNamed, Held, TotallyDeadlocked, Stuck}
 use Rattle.deadlock.proofs.Walks.{first, rest, follow}
 
@@ -70,18 +69,12 @@ module _ {Event : Type 0} (Blocked Impedes : ℕ → Event → Type 0) where
   pub named-iff-events : (t : ℕ) → Named t ↔ EventNamed Blocked Impedes t
   named-iff-events t = (named-events t, events-named t)
 
-  pub stuck-iff-events : (t : ℕ) → Stuck Blocked Impedes t ↔ EventNamed Blocked Impedes t
-  stuck-iff-events t = (λ s. named-events t (stuck-named t s), λ r. named-stuck t (events-named t r))
-
-  -- a set that is right for either route has exactly the stuck tasks, and two sets, each right for its own route, are one
+  -- a set that is right for either route has exactly the stuck tasks
   pub named-set-stuck : (m : ℕ) → ((t : ℕ) → Has m t ↔ Named t) → (t : ℕ) → Has m t ↔ Stuck Blocked Impedes t
   named-set-stuck m f t = (λ h. named-stuck t (f t .0 h), λ s. f t .1 (stuck-named t s))
 
   pub events-set-named : (m : ℕ) → ((t : ℕ) → Has m t ↔ EventNamed Blocked Impedes t) → (t : ℕ) → Has m t ↔ Named t
   events-set-named m f t = (λ h. events-named t (f t .0 h), λ w. f t .1 (named-events t w))
-
-  pub routes-one : (n a b : ℕ) → a < 2 ^ n → b < 2 ^ n → ((t : ℕ) → Has a t ↔ Named t) → ((t : ℕ) → Has b t ↔ EventNamed Blocked Impedes t) → a ≡ b
-  routes-one n a b fa fb f g = same-set n Named a b fa fb f (events-set-named b g)
 
   -- ---- the union of a family of deadlocked sets that is not empty is deadlocked
   pub union-deadlocked : {I : Type 0} (S : I → ℕ → Type 0) → ((i : I) → Deadlocked (S i)) → I → Deadlocked (λ t. (i : I) × S i t)
@@ -93,13 +86,7 @@ module _ {Event : Type 0} (Blocked Impedes : ℕ → Event → Type 0) where
         record { event = a .event; waits = a .waits; by = a .by; inside = (h .0, a .inside); impedes = a .impedes };
   }
 
-  -- ---- a stuck task's event is impeded by a stuck task
-  pub stuck-held : (t : ℕ) → Stuck Blocked Impedes t → (e : Event) × Blocked t e × (u : ℕ) × Impedes u e × Stuck Blocked Impedes u
-  stuck-held t s =
-      let h = s .deadlocked .each t (s .holds) in
-      (h .event, h .waits, h .by, h .impedes, record { set = s .set; deadlocked = s .deadlocked; holds = h .inside })
-
-  -- whichever event it is blocked on, where a task is blocked on one event only
+  -- ---- a stuck task's event is impeded by a stuck task, whichever event that is, where a task is blocked on one event only
   module _ (one : (t : ℕ) (e f : Event) → Blocked t e → Blocked t f → e ≡ f) where
     pub named-impeded : (t : ℕ) (e : Event) → Blocked t e → Named t → (u : ℕ) × Impedes u e × Named u
     named-impeded t e b w =

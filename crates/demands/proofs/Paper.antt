@@ -7,7 +7,7 @@ use mathlib.Core.Option.{Option, some, none, Option·none-ne-some}
 use Prim.Native.Nat.{ℕ, _<_}
 use native.Mathlib.Omega.{arith}
 use lib.Dec.{eqb}
-use borrow.Author.Tests.{eqb-true, eq-eqb, ne-eqb}
+use borrow.Author.Tests.{eqb-true, eq-eqb}
 use Rattle.sets.specs.Set.{bit, Has}
 use Rattle.hall.specs.Rules.{Phaser, PhaserMap, phaserOf, phasersOf}
 use Rattle.hall.specs.Sound.{Sound}
@@ -32,9 +32,6 @@ part m b T k = cond (eqb (bit m k) 1) (cond b (T k) none) (cond b none (T k))
 module _ (m : ℕ) (T : TaskMap) where
   inside : (k : ℕ) → Has m k → part m true T k ≡ T k
   inside k h = rw (eq-eqb (bit m k) 1 h)
-
-  outside : (k : ℕ) → (Has m k → ⊥) → (part m true T k ≡ none) × (part m false T k ≡ T k)
-  outside k n = rw (ne-eqb (bit m k) 1 n) (refl, refl)
 
   -- which is where a task of the first part is
   in-set : (k : ℕ) → InDom (part m true T) k → Has m k

@@ -40,6 +40,3 @@ module _ (t : Table) where
       holds = named-at k .1 x;
     },
   )
-
-  pub named-stuck : (k : ℕ) → Has (namedIn t) k ↔ StuckIn t k
-  named-stuck k = (λ h. stuck-iff k .1 (named-at k .0 h), λ x. named-at k .1 (stuck-iff k .0 x))

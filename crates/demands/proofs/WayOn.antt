@@ -57,9 +57,6 @@ ends-contains : (k : ℕ) (calls : List Call) → Contains k (calls ++ (release 
 ends-contains k [] = inl (record { kind = refl; task = refl })
 ends-contains k (c ∷ calls) = inr (ends-contains k calls)
 
-pub way-on-not-stuck : (t : Table) → Shaped t → (k : ℕ) → WayOn t k → StuckAt t k → ⊥
-way-on-not-stuck t z k w x = stuck-never t z k x (w .calls ++ (release k ∷ [])) (w .series) (ends-contains k (w .calls))
-
 pub stuck-iff-never : (t : Table) → Shaped t → Sound t → (k : ℕ) (e : Event) → BlockedOn t k e → StuckAt t k ↔ Never t k
 stuck-iff-never t z s k e b = (
   stuck-never t z k,

@@ -24,9 +24,6 @@ module _ (t : Table) where
   pub event-task : (m : ℕ) → EventRoute t m → TaskRoute t m
   event-task m r = record { iff = events-set-named (BlockedOn t) (Impedes t) m (r .iff) }
 
-  pub event-stuck : (m : ℕ) → EventRoute t m → (k : ℕ) → Has m k ↔ Stuck (BlockedOn t) (Impedes t) k
-  event-stuck m r = task-stuck m (event-task m r)
-
   -- ---- each promise fixes the set, and both routes have the same
   pub task-one : (a b : ℕ) → TaskRoute t a → TaskRoute t b → a ≡ b
   task-one a b x y = same-members (TaskNamed (BlockedOn t) (Impedes t)) a b (x .iff) (y .iff)

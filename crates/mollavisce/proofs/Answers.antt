@@ -1,14 +1,14 @@
--- Which answers the entry gives to bytes. With a route and a strip it is the reader's: the table that was read is sound, so 44 never comes, and the ring walk
--- always finds a task to step to, so 22 never comes.
+-- Which answers the entry gives to bytes. With a route and a strip it is the reader's: the table that was read is sound, and the ring walk always finds a task
+-- to step to, so neither 44 nor 22 is among them.
 use mathlib.Core.Path.{_≡_, refl, ap, sym, _∙_}
 use mathlib.Core.Bool.{Bool, true, false, _||_}
 use mathlib.Core.List.{List}
 use Prim.Native.Nat.{ℕ, _≤_}
 use native.Mathlib.Decide.{ℕ-discrete}
 use lib.Dec.{T, eqb}
-use Rattle.hall.specs.Answers.{done, notSound, among}
+use Rattle.hall.specs.Answers.{done, among}
 use Rattle.hall.proofs.Soundness.{sound-iff}
-use Rattle.judge.specs.Verdict.{noRoute, noStep}
+use Rattle.judge.specs.Verdict.{noRoute}
 use Rattle.judge.specs.declared.verdict.Verdict.{Verdict}
 use Rattle.judge.proofs.Answers.{answer-0}
 use Rattle.sheet.specs.Fields.{sheetAt}
@@ -43,9 +43,3 @@ module _ (sheet : List ℕ) (bytes : Bytes sheet) (route : ℕ) where
         go (reached r) =
             rw (r .answers ∙ judged-answer (r .verdict) (r .route-there) (r .judged))
             (more (eqb (sheetAt sheet .answer) noRoute) (eqb (sheetAt sheet .answer) shortStrip) _ (answers sheet bytes))
-
-    pub never-44 : answer ≡ notSound → ⊥
-    never-44 e = rw e at entry-answers
-
-    pub never-22 : answer ≡ noStep → ⊥
-    never-22 e = rw e at entry-answers

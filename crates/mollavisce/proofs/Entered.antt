@@ -55,6 +55,3 @@ module _ (sheet : List ℕ) (route : ℕ) (before after : List ℕ) (answer : �
         go (no-route l a s) = s
         go (short l m a s) = s
         go (reached r) = r .strip ∙ rw (ne-eqb (r .verdict .answer) done (λ e. n (r .answers ∙ e)))
-
-    pub refusal-kept : 10 ≤ answer → after ≡ before
-    refusal-kept l = refused-kept (λ e. omega arith)

@@ -8,7 +8,6 @@ use mir.Val.{Fits}
 use mir.Syntax.{w64}
 use Rattle.sets.specs.Set.{Has, Least, LowestOf}
 use Rattle.sets.proofs.Bits.{bit-suc}
-use Rattle.sets.proofs.Members.{has-lt}
 
 -- there is one lowest
 pub least-one : (P : ℕ → Type 0) (a b : ℕ) → Least P a → Least P b → a ≡ b
@@ -43,9 +42,6 @@ trailing-least n m f p = record { holds = trailing-has n m f p; lowest = trailin
 
 pub trailing-lowest : (m : ℕ) → m < 2 ^ 32 → LowestOf m (trailingZeros 32 m)
 trailing-lowest m f = record { some = trailing-least 32 m f; none = λ e. rw e (trailing-of-zero 32) }
-
-pub lowest-lt : (m u : ℕ) → m < 2 ^ 32 → 0 < m → LowestOf m u → u < 32
-lowest-lt m u f p l = has-lt 32 m u f (l .some p .holds)
 
 -- a count of zeros fits a `usize`
 pub trailing-fits : (m : ℕ) → Fits w64 (trailingZeros 32 m)
