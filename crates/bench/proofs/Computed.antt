@@ -34,7 +34,8 @@ use Rattle.judge.proofs.One.{routes-agree}
 use Rattle.sets.proofs.Masks.{maskOf}
 use Rattle.judge.proofs.Twins.{rowsOf, namedIn, ringIn, roundIn, judgeOf, judgeOf-judged}
 use Rattle.sheet.specs.Number.{plainAt, numberAt}
-use Rattle.bench.specs.Bench.{Row, judged, called, read, statedOf, after, Holds, Each, openTask, p4, p7, figure2, section2-4, example4-1, example4-1-before, example4-2, example4-3, rows}
+use Rattle.bench.specs.Bench.{Row, judged, called, read, statedOf, after, Holds, Each, openTask, p4, p7, figure2, section2-4, example4-1}
+use Rattle.bench.specs.Bench.{example4-1-before, example4-2, example4-3, rows}
 use Rattle.demands.specs.Series.{Call, call, made, Series}
 
 -- ---- P11

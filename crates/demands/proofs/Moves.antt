@@ -12,8 +12,10 @@ use Rattle.hall.specs.declared.calls.Called.{Called}
 use Rattle.hall.specs.declared.table.State.{State}
 use Rattle.hall.specs.declared.table.State.the-variants.{Running, Blocked}
 use Rattle.hall.specs.declared.table.Table.{Table}
-use Rattle.hall.proofs.Changes.{Gives, Waited, open-task-changes, end-task-changes, open-phaser-changes, close-phaser-changes, admit-changes, leave-changes, arrive-changes, wait-changes, wait-at-changes, release-changes}
-use Rattle.hall.proofs.Figure3.{Steps, open-task-exact, end-task-exact, open-phaser-exact, close-phaser-exact, admit-exact, leave-exact, arrive-exact, wait-passes, wait-blocks, wait-at-passes, wait-at-blocks, release-exact}
+use Rattle.hall.proofs.Changes.{Gives, Waited, open-task-changes, end-task-changes, open-phaser-changes, close-phaser-changes, admit-changes}
+use Rattle.hall.proofs.Changes.{leave-changes, arrive-changes, wait-changes, wait-at-changes, release-changes}
+use Rattle.hall.proofs.Figure3.{Steps, open-task-exact, end-task-exact, open-phaser-exact, close-phaser-exact, admit-exact, leave-exact}
+use Rattle.hall.proofs.Figure3.{arrive-exact, wait-passes, wait-blocks, wait-at-passes, wait-at-blocks, release-exact}
 use Rattle.hall.proofs.Lists.{clash}
 use Rattle.hall.proofs.Maps.{phaser-there, member-is, phasers-same}
 use Rattle.demands.specs.Moves.{Rule, Waits, ByRules}
@@ -83,7 +85,8 @@ by-rules t z c =
       open-task = λ q. rw q
           (by-value (λ n. put (stateAt t) n Running) (lowestFree t) (λ l. open-task-changes t z a p o l .values)
           (opening (open-task-changes t z a p o) (open-task-exact t z a p o)));
-      end-task = λ q. rw q (moving (end-task-changes t z a p o) (end-task-exact t z a p o) (λ v M′. (λ x. (x .0 .0, x .1, x .0 .1), λ x. ((x .0, x .2), x .1))));
+      end-task = λ q. rw q
+          (moving (end-task-changes t z a p o) (end-task-exact t z a p o) (λ v M′. (λ x. (x .0 .0, x .1, x .0 .1), λ x. ((x .0, x .2), x .1))));
       open-phaser = λ q. rw q (opening (open-phaser-changes t z a p o) (open-phaser-exact t z a p o));
       close-phaser = λ q. rw q
           (moving (close-phaser-changes t z a p o) (close-phaser-exact t z a p o)
@@ -101,5 +104,7 @@ by-rules t z c =
             record { phaser = phaserOf t p; there = phaser-there t p e; all = λ u m i. absurd (clash (member-is t p u m i .0) (h u)) },
             l,
           ));
-      release = λ q. rw q (moving (release-changes t z a p o) (release-exact t z a p o) (λ v M′. (λ x. (x .0 .0, x .0 .1, x .1, x .0 .2), λ x. ((x .0, x .1, x .3), x .2))));
+      release = λ q. rw q
+          (moving (release-changes t z a p o) (release-exact t z a p o)
+          (λ v M′. (λ x. (x .0 .0, x .0 .1, x .1, x .0 .2), λ x. ((x .0, x .1, x .3), x .2))));
     }

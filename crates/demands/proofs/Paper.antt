@@ -21,7 +21,8 @@ use Rattle.hall.proofs.Impeded.{impedes-iff}
 use Rattle.hall.proofs.Lists.{clash}
 use Rattle.hall.proofs.Maps.{phaser-there, phaser-opens, member-there, member-is}
 use Rattle.judge.proofs.Twins.{namedIn}
-use Rattle.demands.specs.PhaserDeadlocks.{Instruction, await, await-n, TaskMap, InDom, At, Awaits, WaitOn, ImpedeBy, DisjointUnion, StandsFor, DeadlockedWith}
+use Rattle.demands.specs.PhaserDeadlocks.{Instruction, await, await-n, TaskMap, InDom, At, Awaits, WaitOn, ImpedeBy, DisjointUnion, StandsFor}
+use Rattle.demands.specs.PhaserDeadlocks.{DeadlockedWith}
 use Rattle.demands.specs.Series.{StuckIn}
 use Rattle.demands.proofs.Stuck.{StuckAt, named-at, stuck-iff}
 

@@ -1,5 +1,5 @@
--- Document 00: "Three things must hold before I peel that off the exercise dial." The functions of this crate hand on what the public functions below them hand
--- back, and promise these records of it, a field a sentence: so each is about what the code does, and would fail here if the code promised less.
+-- Document 00: "Three things must hold before I peel that off the exercise dial." The functions of this crate hand on what the public functions below
+-- them hand back, and promise these records of it, a field a sentence: so each is about what the code does, and would fail if the code promised less.
 use mathlib.Core.Path.{_≡_}
 use mathlib.Core.Logic.{_↔_}
 use mathlib.Core.Bool.{true}
@@ -36,8 +36,8 @@ pub record SheetOfSound (sheet : List ℕ) : Type 0 where
   pub sound : Sound table
   pub is : sheet ≡ sheetOf table
 
--- ---- 1. "Every call and every status sheet, with numbers of any size in it, is answered without a fault and without leaning on the caller's care. A refusal gives
--- its own number and a value of 0, the table stays as it stood, and not one byte of the lent answer strip moves."
+-- ---- 1. "Every call and every status sheet, with numbers of any size in it, is answered without a fault and without leaning on the caller's care. A
+-- refusal gives its own number and a value of 0, the table stays as it stood, and not one byte of the lent answer strip moves."
 -- the kinds that use their task, their phaser, their other number
 abbrev pub taskUsers : List ℕ
 taskUsers = 1 ∷ 2 ∷ 4 ∷ 5 ∷ 6 ∷ 7 ∷ 8 ∷ 9 ∷ []
@@ -93,7 +93,8 @@ pub record NamesTheStuck (t : Table) (v : Verdict) : Type 0 where
   pub count : v .count ≡ size (v .named) 32
   pub ring : RingIn (Has (v .named)) (ImpedesTask t) (record { closed = true; length = v .length; tasks = v .ring })
 
--- ---- 3. "A blocked task is among them exactly when no series of accepted calls, however long and by whichever tasks, could ever contain an accepted release of it."
+-- ---- 3. "A blocked task is among them exactly when no series of accepted calls, however long and by whichever tasks, could ever contain an accepted
+-- release of it."
 pub record MeansNever (t : Table) (v : Verdict) : Type 0 where
   pub never : (k : ℕ) (e : Event) → BlockedOn t k e → Has (v .named) k ↔ Never t k
   -- "a task left off the list must have a way to go on"

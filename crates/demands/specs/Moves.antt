@@ -1,5 +1,5 @@
--- Document 00, demand 2: "Calls move the table by that paper's rules, within the limits, additions and one narrowing that document 01 states." Of a call c on a
--- table t and what was handed back, r: each field has a kind's rule of figure 3 (`hall`'s Rules), and beside it what document 01 adds, and nothing else.
+-- Document 00, demand 2: "Calls move the table by that paper's rules, within the limits, additions and one narrowing that document 01 states." Of a call
+-- c on a table t and what was handed back, r: each field has a kind's rule of figure 3 (`hall`'s Rules), beside it what document 01 adds, and no more.
 use mathlib.Core.Path.{_≡_}
 use mathlib.Core.Logic.{_↔_}
 use mathlib.Core.Bool.{true, false}

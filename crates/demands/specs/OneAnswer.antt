@@ -1,6 +1,6 @@
--- Document 01, 'How tight the promises are': "For every input the promise of a public function yields one answer, one next table and one content for each lent
--- byte. That two answers allowed by it are equal is itself proved". A line for each public function of the library. `Learnt` is what a caller learns of a call:
--- the function's own `ensures`, as the checker has it, over the arguments, the result and what was lent, as it is after the call.
+-- Document 01, 'How tight the promises are': "For every input the promise of a public function yields one answer, one next table and one content for each
+-- lent byte. That two answers allowed by it are equal is itself proved". A line for each public function of the library. `Learnt` is what a caller learns
+-- of a call: the function's own `ensures`, as the checker has it, over the arguments, the result and what was lent, as it is after the call.
 use mathlib.Core.Path.{_≡_}
 use denote.Ref.{now}
 use Rattle.sets.proofs.has.Reads as sets·has

@@ -65,7 +65,8 @@ unused-iff t p = (λ e. (members e, waiters e), λ h. every-all (free t p) 32 (�
       where
         go : (b : Bool) → memberAt t k p ≡ b → b ≡ false
         go true m =
-            absurd (clash m (not-true _ (and-left (not (memberAt t k p)) (not (waitsAt (stateAt t k) p)) (every-at (free t p) 32 k e (member-below t k p m .0)))))
+            let x = every-at (free t p) 32 k e (member-below t k p m .0) in
+            absurd (clash m (not-true _ (and-left (not (memberAt t k p)) (not (waitsAt (stateAt t k) p)) x)))
         go false m = refl
 
     waiters : every (free t p) 32 ≡ true → (k : ℕ) (e : Event) → BlockedOn t k e → e .phaser .0 ≡ p → ⊥

@@ -20,10 +20,14 @@ use Rattle.hall.specs.declared.table.Event.{Event}
 use Rattle.hall.specs.declared.table.State.{State}
 use Rattle.hall.specs.declared.table.State.the-variants.{Free, Running, Blocked}
 use Rattle.hall.specs.declared.table.Table.{Table}
-use Rattle.hall.proofs.Accepted.{open-task-accepted, end-task-accepted, open-phaser-accepted, close-phaser-accepted, admit-accepted, leave-accepted, arrive-accepted, wait-accepted, wait-at-accepted, release-accepted}
-use Rattle.hall.proofs.Changes.{Waited, unused-iff, free-lowest, unopened-lowest, open-task-changes, end-task-changes, open-phaser-changes, close-phaser-changes, admit-changes, leave-changes, arrive-changes, wait-changes, wait-at-changes, release-changes}
+use Rattle.hall.proofs.Accepted.{open-task-accepted, end-task-accepted, open-phaser-accepted, close-phaser-accepted, admit-accepted}
+use Rattle.hall.proofs.Accepted.{leave-accepted, arrive-accepted, wait-accepted, wait-at-accepted, release-accepted}
+use Rattle.hall.proofs.Changes.{Waited, unused-iff, free-lowest, unopened-lowest, open-task-changes, end-task-changes, open-phaser-changes}
+use Rattle.hall.proofs.Changes.{close-phaser-changes, admit-changes, leave-changes, arrive-changes, wait-changes, wait-at-changes}
+use Rattle.hall.proofs.Changes.{release-changes}
 use Rattle.hall.proofs.Lists.{clash, lowest-is}
-use Rattle.hall.proofs.Maps.{phaser-there, phaser-opens, phaser-absent, member-there, member-is, member-absent, phasers-same, phasers-moved, phasers-opened, phasers-left, phasers-closed, reached-await}
+use Rattle.hall.proofs.Maps.{phaser-there, phaser-opens, phaser-absent, member-there, member-is, member-absent, phasers-same, phasers-moved}
+use Rattle.hall.proofs.Maps.{phasers-opened, phasers-left, phasers-closed, reached-await}
 use Rattle.hall.proofs.Soundness.{sound-iff}
 
 -- ---- the numbers that opening gives

@@ -1,4 +1,5 @@
--- Document 00: calls move the table by the paper's rules "within the limits, additions and one narrowing that document 01 states". What these ask beside a rule.
+-- Document 00: calls move the table by the paper's rules "within the limits, additions and one narrowing that document 01 states". What is asked beside a
+-- rule.
 use mathlib.Core.Path.{_≡_}
 use mathlib.Core.Bool.{true, false}
 use mathlib.Core.Option.{Option, some, none}

@@ -63,7 +63,7 @@ noKind = 42
 abbrev pub notSound : ℕ
 notSound = 44
 
--- ---- 'The ten calls': the numbers that each kind answers over a sound table, what it answers where it is accepted and then its row's refusals, in their order
+-- ---- 'The ten calls': what each kind answers over a sound table: where it is accepted, and then its row's refusals in their order
 abbrev pub answersOf : ℕ → List ℕ
 answersOf kind =
     getD (

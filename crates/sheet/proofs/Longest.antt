@@ -76,7 +76,9 @@ full-member k p h g = member-in fullTable k p h g ∙ getD-replicate 512 (k * 16
 
 full-phase : (k p : ℕ) → k < 32 → p < 16 → phaseAt fullTable k p ≡ largestPhase
 unfolding fullTable
-full-phase k p h g = phase-in fullTable k p h g ∙ ap (λ (x : Phase). x .0) (getD-replicate {A = Phase} 512 (k * 16 + p) (record { 0 = largestPhase }) phase0 (omega arith))
+full-phase k p h g =
+    phase-in fullTable k p h g
+    ∙ ap (λ (x : Phase). x .0) (getD-replicate {A = Phase} 512 (k * 16 + p) (record { 0 = largestPhase }) phase0 (omega arith))
 
 -- ---- it is sound
 sound-test : soundOf fullTable ≡ true

@@ -35,7 +35,8 @@ state-running : (s : List ℕ) (opened : List Bool) (at kind next : ℕ) → pla
 unfolding stateOn
 state-running s opened at kind next e k = rw (e, eq-eqb kind 0 k)
 
-state-blocked : (s : List ℕ) (opened : List Bool) (at kind next : ℕ) → plainAt s at ≡ value kind next → kind ≡ 1 → stateOn s opened at ≡ blockedAt s opened next
+state-blocked : (s : List ℕ) (opened : List Bool) (at kind next : ℕ) → plainAt s at ≡ value kind next → kind ≡ 1
+    → stateOn s opened at ≡ blockedAt s opened next
 unfolding stateOn
 state-blocked s opened at kind next e k = rw (e, k)
 
