@@ -6,6 +6,7 @@ pub mod WayOn
 pub mod Paper
 pub mod Answers
 pub mod Moves
+pub mod ByRoute
 pub mod Verdicts
 pub mod OfSheets
 pub mod OneAnswers

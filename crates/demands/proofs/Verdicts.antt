@@ -86,8 +86,12 @@ module _ (t : Table) (z : Shaped t) (route : ℕ) (v : Verdict) (j : Judged t ro
   }
 
 -- ---- the sets that the two routes hand back
-pub sets-agree : (t : Table) (tasks events : ℕ) → TaskRoute t tasks → EventRoute t events → RoutesAgree t tasks events
-sets-agree t tasks events x y = record {
-  same = routes-one t tasks events x y;
-  stuck = λ k. let i = task-stuck t tasks x k in (λ h. stuck-iff t k .1 (i .0 h), λ s. i .1 (stuck-iff t k .0 s));
-}
+module _ (t : Table) (tasks events : ℕ) (x : TaskRoute t tasks) (y : EventRoute t events) where
+  agree : RoutesAgree t tasks events
+  agree = record {
+    same = routes-one t tasks events x y;
+    stuck = λ k. let i = task-stuck t tasks x k in (λ h. stuck-iff t k .1 (i .0 h), λ s. i .1 (stuck-iff t k .0 s));
+  }
+
+  pub sets-agree : (m n : ℕ) → m ≡ tasks → n ≡ events → RoutesAgree t m n
+  sets-agree m n p q = rw (p, q) agree

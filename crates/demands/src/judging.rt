@@ -25,6 +25,7 @@ pub fn verdicts(table: Table) -> ByRoute
     ensures same { λ r. ⌜ r .tasks ≡ r .events ⌝ }
     ensures judged { λ r. ⌜ TableJudged table 0 (r .tasks) ⌝ }
 {
+    table.shaped();
     ByRoute {
         tasks: judge(table, 0),
         events: judge(table, 1),

@@ -1,5 +1,7 @@
 -- A lent slice holds bytes: so the demands hold of what the entry answers and leaves in the strip.
 use borrow.Author.Needs.{needs}
+use native.Mathlib.Omega.{arith}
+use Rattle.demands.proofs.ByRoute.{entered-by}
 use Rattle.demands.proofs.OfSheets.{sheet-answered}
 use Rattle.demands.proofs.sheets.sheet_verdict.Statement.{statement}
 use Rattle.demands.proofs.sheets.sheet_verdict.Tie as tie
@@ -14,7 +16,9 @@ returns : tie.Need-returns
 returns c =
     let a = c .before .before .before .before .before .before .args in
     let known = c .before .before .before .before .before .shared-slice-known .given in
-    sheet-answered (a .sheet .now) (λ i. known i .fits) (a .route) (a .strip .now) _ _ (c .before .before .sheet-verdict .ensures)
+    let s = a .sheet .now in
+    let entered = entered-by _ (a .route) (λ l. omega arith, λ l. omega arith) s (a .strip .now) _ _ (c .before .before .sheet-verdict .ensures) in
+    sheet-answered s (λ i. known i .fits) (a .route) (a .strip .now) _ _ entered
 
 pub sheet-verdict-spec : {M : Type 1} → statement M
 sheet-verdict-spec = tie.close (tie.spec sheet-verdict-requires same-length returns)

@@ -1,8 +1,11 @@
 -- The text is that of the sheet's verdict, and none of it is cut.
 use mathlib.Core.Path.{_≡_, ap, _∙_}
 use borrow.Author.Needs.{needs}
+use native.Mathlib.Omega.{arith}
 use Rattle.text.specs.declared.text.Text.{Text}
 use Rattle.text.proofs.Said.{said-whole}
+use Rattle.demands.proofs.ByRoute.{sheet-judged-by}
+use Rattle.demands.proofs.OfSheets.{sheet-verdict}
 use Rattle.demands.proofs.sheets.text_of.Statement.{statement}
 use Rattle.demands.proofs.sheets.text_of.Tie as tie
 
@@ -14,10 +17,13 @@ text-of-requires c κs = search needs
 
 returns : tie.Need-returns
 returns c =
+    let s = c .before .before .before .args .sheet .now in
+    let v = c .before .verdict-of in
+    let judged = sheet-judged-by _ 0 (λ l. omega arith, λ l. omega arith) s (v .result) (v .ensures .is) in
     let text = c .text-of .ensures in
     record {
-      verdict = c .before .verdict-of .result;
-      judged = c .before .verdict-of .ensures;
+      verdict = v .result;
+      judged = sheet-verdict s (λ i. c .before .before .shared-slice-known .given i .fits) 0 (v .result) judged;
       is = text .0;
       whole = said-whole (c .text-of .result) _ (text .0) (text .1);
     }
