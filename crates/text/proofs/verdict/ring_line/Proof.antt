@@ -1,6 +1,6 @@
 -- The invariant: after the word, the first `place` of the ring's places.
 use mathlib.Core.Path.{_≡_}
-use Prim.Native.Nat.{_-_, _≤_, _<_}
+use Prim.Native.Nat.{_-_, _≤_, _<_, min}
 use native.Mathlib.Numerals.{add-one}
 use native.Mathlib.Omega.{arith}
 use lib.ListN.{length, take}
@@ -69,9 +69,8 @@ returns c =
     let ring = start .args .verdict .ring in
     let at = c .before .before .loop in
     let places : length ring ≡ 32 = search needs in
-    let end = c .before .before .before .before .before .lesser in
-    let all : at .place ≡ end .result = search needs in
-    adds-both (adds-both (c .before .before .before .word .ensures) (rw (all, end .ensures, ← places, take-min) at (at .inv .1))) (c .byte .ensures)
+    let all : at .place ≡ min (start .args .verdict .length) (length ring) = omega arith in
+    adds-both (adds-both (c .before .before .before .word .ensures) (rw (all, take-min) at (at .inv .1))) (c .byte .ensures)
 
 pub ring-line-spec : {M : Type 1} → statement M
 ring-line-spec =

@@ -1,6 +1,7 @@
 -- The answer's line, and on answer 0 the two others behind it.
 use mathlib.Core.Path.{_≡_}
 use Prim.Native.Nat.{ℕ, _^_, _≤_, _<_}
+use native.Mathlib.Omega.{arith}
 use lib.ListN.{getD, length}
 use borrow.Author.Needs.{needs}
 use mir.Syntax.{w8}
@@ -30,7 +31,7 @@ returns : tie.Need-returns
 returns c =
     let start = c .before .before .before in
     let first = c .before .before .answer-line .ensures in
-    (rw (text-refused (start .before .args .verdict) (c .if1 .taken)) (first .says _ (start .empty .ensures)), whole start)
+    (rw (text-refused (start .before .args .verdict) (λ e. omega arith)) (first .says _ (start .empty .ensures)), whole start)
 
 named-line-requires : tie.Need-named-line-requires
 named-line-requires c κs = search needs
@@ -43,7 +44,7 @@ returns-2 c =
     let start = c .before .before .before .before .before in
     let first = c .before .before .before .before .answer-line .ensures in
     let both = adds-both first (adds-both (c .before .named-line .ensures) (c .ring-line .ensures)) in
-    (rw (text-done (start .before .args .verdict) (c .before .before .if1 .left)) (both .says _ (start .empty .ensures)), whole start)
+    (rw (text-done (start .before .args .verdict) (omega arith)) (both .says _ (start .empty .ensures)), whole start)
 
 pub text-of-spec : {M : Type 1} → statement M
 text-of-spec =

@@ -1,12 +1,10 @@
--- The measure is the number. Digits that hold it hold one tenth of it with one less.
-use Prim.Native.Nat.{ℕ, zero, suc, _/_, _^_, _<_}
-use native.Mathlib.Nat.{pow-suc}
+-- The measure is the number.
+use Prim.Native.Nat.{ℕ, zero, suc, _<_}
 use native.Mathlib.Omega.{arith}
 use borrow.Author.Needs.{needs}
 use borrow.Fn.Kinds.{In}
 use borrow.Fn.PlainCycle.{Measures, is, falls, and}
-use Rattle.text.proofs.Decimals.{digits-one, digits-more}
-use Rattle.text.proofs.Said.{adds-both}
+use Rattle.text.proofs.Decimals.{adds-digit, adds-digits}
 use Rattle.text.proofs.text.Text.digits.Reads as digits
 use Rattle.text.proofs.text.Text.digits.Kinds as digits-kinds
 use Rattle.text.proofs.text.Text.+digits.Lts-digits as digits-lts
@@ -46,14 +44,13 @@ module _ (t : ℕ) where
   byte-requires-2 c κs = tt
 
   returns : digits-lts.Need-returns (byte-reads.Asked, byte-reads.Learnt, digits-below t, digits.Post) (digits-at t) digits.Post
-  returns c more fits = rw (digits-one more (c .before .before .args .number) (omega arith)) (c .byte .ensures)
+  returns c more fits = adds-digit more (c .before .before .args .number) _ (c .byte .ensures) (omega arith) (omega arith)
 
   returns-2 : digits-lts.Need-returns-2 (byte-reads.Asked, byte-reads.Learnt, digits-below t, digits.Post) (digits-at t) digits.Post
   returns-2 c zero fits = absurd (omega arith)
   returns-2 c (suc more) fits =
       let n = c .before .before .before .args .number in
-      let tenth : n / 10 < 10 ^ suc more = omega (arith, pow-suc 10 (suc more)) in
-      rw (digits-more (suc more) n (omega arith)) (adds-both (c .before .digits .ensures more tenth) (c .byte2 .ensures))
+      adds-digits more n _ _ (c .before .digits .ensures) (c .byte2 .ensures) (omega arith) fits (omega arith) (omega arith)
 
 pub +digits-spec : {M : Type 1} → statement M
 +digits-spec =
