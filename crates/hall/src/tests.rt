@@ -172,7 +172,8 @@ impl Table {
         if refusal != DONE {
             return refusal;
         }
-        if !self.open_at(phaser) {
+        let open = self.open_at(phaser);
+        if !open {
             return NO_PHASER;
         }
         if stated > LARGEST_PHASE as u64 {

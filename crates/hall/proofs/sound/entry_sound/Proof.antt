@@ -1,4 +1,7 @@
+use native.Mathlib.Omega.{arith}
 use borrow.Author.Needs.{needs}
+use borrow.Author.Tests.{ltb-true, leb-true, eqb-true, lt-ltb, le-leb, eq-eqb}
+use Rattle.hall.proofs.Lists.{same-test}
 use Rattle.hall.proofs.sound.entry_sound.Statement.{statement}
 use Rattle.hall.proofs.sound.entry_sound.Tie as tie
 
@@ -21,7 +24,10 @@ returns-3 : tie.Need-returns-3
 returns-3 c = search needs
 
 returns-4 : tie.Need-returns-4
-returns-4 c = simp (c .before .if1 .left)
+returns-4 c =
+    simp (c .before .if1 .left)
+    (same-test _ _ (λ e. omega (arith, ltb-true, leb-true, eqb-true, eq-eqb, e))
+    (λ e. omega (arith, lt-ltb, le-leb, eq-eqb, eqb-true, e)))
 
 pub entry-sound-spec : {M : Type 1} → statement M
 entry-sound-spec = tie.close (tie.spec is-live-requires returns returns-2 returns-3 returns-4)

@@ -1,6 +1,8 @@
-use borrow.Author.Tests.{le-ltb}
-use Rattle.hall.proofs.Places.{open-in, open-out}
+use native.Mathlib.Omega.{arith}
 use borrow.Author.Needs.{needs}
+use borrow.Author.Tests.{ltb-true, leb-true, lt-ltb, le-leb, le-ltb}
+use Rattle.hall.proofs.Lists.{same-test}
+use Rattle.hall.proofs.Places.{open-in, open-out}
 use Rattle.hall.proofs.sound.state_sound.Statement.{statement}
 use Rattle.hall.proofs.sound.state_sound.Tie as tie
 
@@ -23,7 +25,9 @@ returns-2 : tie.Need-returns-2
 returns-2 c = λ t e. search needs
 
 returns-3 : tie.Need-returns-3
-returns-3 c = λ t e. simp (c .before .before .before .before .state .given .1, open-in t _ (c .before .before .if1 .taken), e, c .before .if2 .taken)
+returns-3 c = λ t e.
+    simp (c .before .before .before .before .state .given .1, open-in t _ (c .before .before .if1 .taken), e, c .before .if2 .taken)
+    (same-test _ _ (λ h. omega (arith, ltb-true, leb-true, le-leb, h)) (λ h. omega (arith, lt-ltb, le-leb, leb-true, h)))
 
 returns-4 : tie.Need-returns-4
 returns-4 c = λ t e. simp (c .before .before .before .state .given .1, open-in t _ (c .before .if1 .taken), e, c .if2 .left)
