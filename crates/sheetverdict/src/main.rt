@@ -1,7 +1,5 @@
 // Reads a sheet from standard input, judges it by route 0 and prints the verdict: the answer and, if that is 0, the named tasks and the ring.
-use judge::verdict::Verdict;
-use mollavisce::entry::verdict_of;
-use text::verdict::text_of;
+use demands::sheets::text_of;
 ghost use Rattle.io.specs.Counts.{Counts};
 
 // How many bytes were read, up to the input's end or as far as there is room for them, and whether a read failed.
@@ -31,8 +29,9 @@ fn read_input(bytes: &mut [u8]) -> Input
     }
 }
 
-fn print(verdict: Verdict) {
-    let text = text_of(verdict);
+// What is printed is what the demands speak of: the text of the sheet's verdict, in one write.
+fn print(sheet: &[u8]) {
+    let text = text_of(sheet);
     let bytes = text.bytes;
     let length = text.length;
     if !io::write_all(1, &bytes[..length]) {
@@ -53,5 +52,5 @@ fn main() {
         return;
     }
     let read = input.read;
-    print(verdict_of(&bytes[..read], 0));
+    print(&bytes[..read]);
 }

@@ -11,7 +11,7 @@ text-of-requires : tie.Need-text-of-requires
 text-of-requires c κs = search needs
 
 fits : (c : tie.After-text-of) → c .text-of .result .length ≤ length (c .text-of .result .bytes)
-fits c = rw (c .text-of .ensures .0) (within _)
+fits c = rw (c .text-of .ensures .is) (within _)
 
 array-share-prefix-bytes : tie.Need-array-share-prefix-bytes
 array-share-prefix-bytes c = fits (c .before)
