@@ -38,7 +38,7 @@ pub record SheetOfSound (sheet : List ℕ) : Type 0 where
 
 -- ---- 1. "Every call and every status sheet, with numbers of any size in it, is answered without a fault and without leaning on the caller's care. A
 -- refusal gives its own number and a value of 0, the table stays as it stood, and not one byte of the lent answer strip moves."
--- the kinds that use their task, their phaser, their other number
+-- document 01's table of calls: the kinds that use their task, their phaser, their other number
 abbrev pub taskUsers : List ℕ
 taskUsers = 1 ∷ 2 ∷ 4 ∷ 5 ∷ 6 ∷ 7 ∷ 8 ∷ 9 ∷ []
 
@@ -72,8 +72,9 @@ pub record CallAnswered (t : Table) (c : Call) (r : Called) : Type 0 where
 
 -- a sheet, and the reader's answer and table
 pub record SheetRead (sheet : List ℕ) (answer : ℕ) (t : Table) : Type 0 where
+  -- "The first fault in byte order decides" (document 01): it is what the fields of the sheet say
   pub is : hands answer t ≡ sheetAt sheet
-  -- it accepts exactly the sheets of sound tables, and hands back that table
+  -- "its own number": it accepts exactly the sheets of sound tables, and hands back that table; else one of 30 to 36
   pub accepted : (u : Table) → ((answer ≡ done) × (t ≡ u)) ↔ (Sound u × Shaped u × (sheet ≡ sheetOf u))
   pub own : among answer sheetAnswers ≡ true
   -- "A sheet reader that refuses hands back a fresh table." (document 01)
@@ -106,7 +107,7 @@ pub record RoutesAgree (t : Table) (tasks events : ℕ) : Type 0 where
   pub stuck : (k : ℕ) → Has tasks k ↔ StuckIn t k
 
 -- ---- what the three say of each verdict that is handed back
--- the judge's, of a table by a route
+-- the judge's, of a table by a route: "A judge over a table tests 41, then 44; .. on a refusal the verdict of nobody." (document 01)
 pub record TableJudged (t : Table) (route : ℕ) (v : Verdict) : Type 0 where
   pub is : Judged t route v
   pub no-route : (v .answer ≡ noRoute) ↔ (1 < route)
@@ -121,7 +122,7 @@ pub record TableJudged (t : Table) (route : ℕ) (v : Verdict) : Type 0 where
 abbrev pub OfSheet : List ℕ → (Table → Type 0) → Type 0
 OfSheet sheet P = (t : Table) → Shaped t → Sound t → sheet ≡ sheetOf t → P t
 
--- a sheet's, by a route
+-- a sheet's, by a route: 41, then the sheet's own fault
 pub record SheetVerdict (sheet : List ℕ) (route : ℕ) (v : Verdict) : Type 0 where
   pub is : SheetJudged sheet route v
   pub no-route : (v .answer ≡ noRoute) ↔ (1 < route)
@@ -132,7 +133,7 @@ pub record SheetVerdict (sheet : List ℕ) (route : ℕ) (v : Verdict) : Type 0 
   pub names : v .answer ≡ done → OfSheet sheet (λ t. NamesTheStuck t v)
   pub never : v .answer ≡ done → OfSheet sheet (λ t. MeansNever t v)
 
--- the entry's, of a sheet by a route, as it stands in the strip
+-- the entry's, of a sheet by a route, as it stands in the strip: "Tests: 41, 40, then the sheet." (document 01)
 pub record SheetAnswered (sheet : List ℕ) (route : ℕ) (before after : List ℕ) (answer : ℕ) : Type 0 where
   pub is : Entered sheet route before after answer
   pub no-route : (answer ≡ noRoute) ↔ (1 < route)
@@ -146,7 +147,7 @@ pub record SheetAnswered (sheet : List ℕ) (route : ℕ) (before after : List �
   pub names : answer ≡ done → OfSheet sheet (λ t. NamesTheStuck t (verdictIn after))
   pub never : answer ≡ done → OfSheet sheet (λ t. MeansNever t (verdictIn after))
 
--- the text that `sheetverdict` prints of a sheet: the lines of its verdict by route 0, whole
+-- "`sheetverdict` reads a sheet from standard input, judges by route 0 and prints" (document 01): the lines of that verdict, whole
 pub record SheetPrinted (sheet : List ℕ) (text : Text) : Type 0 where
   pub verdict : Verdict
   pub judged : SheetVerdict sheet 0 verdict
