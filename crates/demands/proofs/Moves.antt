@@ -25,7 +25,8 @@ use Rattle.demands.specs.Series.{Call, made}
 module _ {r : Called} {value : ℕ} {state : ℕ → State} {opened : ℕ → Bool} {member : ℕ → ℕ → Bool} {phase : ℕ → ℕ → ℕ}
     (gives : r .answer < 10 → Gives r done value state opened member phase) where
   -- accepted with a map and a value exactly there
-  opening : {Where : ℕ → PhaserMap → Type 0} → ((v : ℕ) (M′ : PhaserMap) → (Steps r M′ × (r .value ≡ v)) ↔ Where v M′) → Rule r Where state
+  opening : {Where : ℕ → PhaserMap → Type 0} → ((v : ℕ) (M′ : PhaserMap) → (Steps r M′ × (r .value ≡ v)) ↔ Where v M′)
+      → Rule r Where state
   opening exact = record {
     moves = λ v M′. (
       λ x. exact v M′ .0 ((omega (arith, x .0), x .2), x .1),
@@ -43,8 +44,8 @@ module _ {r : Called} {value : ℕ} {state : ℕ → State} {opened : ℕ → Bo
   ))
 
 -- the state of the task whose number is the value
-by-value : {r : Called} {Where : ℕ → PhaserMap → Type 0} (state : ℕ → ℕ → State) (n : ℕ) → (r .answer < 10 → r .value ≡ n) → Rule r Where (state n)
-    → Rule r Where (state (r .value))
+by-value : {r : Called} {Where : ℕ → PhaserMap → Type 0} (state : ℕ → ℕ → State) (n : ℕ) → (r .answer < 10 → r .value ≡ n)
+    → Rule r Where (state n) → Rule r Where (state (r .value))
 by-value state n values x = record {
   moves = x .moves;
   states = λ e k. x .states e k ∙ ap (λ (m : ℕ). state m k) (sym (values (omega (arith, e))));

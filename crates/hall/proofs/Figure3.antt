@@ -127,7 +127,8 @@ module _ (t : Table) (z : Shaped t) (a p : ℕ) where
         next = phasers-moved t (callOf t 6 a p o .table) a p true (phaseAt t a p + 1) (h .opens) (arrive-changes t z a p o l .reads);
       }
 
-  pub arrive-exact : (o : ℕ) (M′ : PhaserMap) → Steps (callOf t 6 a p o) M′ ↔ (Runs t a × Arrv a p (phasersOf t) M′ × (phaseAt t a p < largestPhase))
+  pub arrive-exact : (o : ℕ) (M′ : PhaserMap)
+      → Steps (callOf t 6 a p o) M′ ↔ (Runs t a × Arrv a p (phasersOf t) M′ × (phaseAt t a p < largestPhase))
   arrive-exact o M′ = (there, back)
     where
       there : Steps (callOf t 6 a p o) M′ → Runs t a × Arrv a p (phasersOf t) M′ × (phaseAt t a p < largestPhase)

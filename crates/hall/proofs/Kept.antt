@@ -76,7 +76,8 @@ module _ (t : Table) (z : Shaped t) (s : soundOf t ≡ true) where
       let u = unused-iff t p .0 e in
       put-open f p false (λ k m. absurd (clash m (u .0 k))) (λ k w. absurd (waiting k (stateAt t k) refl w (u .1 k)))
     where
-      waiting : (k : ℕ) (x : State) → stateAt t k ≡ x → waitsAt x p ≡ true → ((e : Event) → BlockedOn t k e → e .phaser .0 ≡ p → ⊥) → ⊥
+      waiting : (k : ℕ) (x : State) → stateAt t k ≡ x → waitsAt x p ≡ true
+          → ((e : Event) → BlockedOn t k e → e .phaser .0 ≡ p → ⊥) → ⊥
       waiting k Free q w h = clash w refl
       waiting k Running q w h = clash w refl
       waiting k (Blocked v) q w h = h v q (eqb-true (v .phaser .0) p w)

@@ -134,7 +134,8 @@ module _ (t u : Table) where
   unfolding phasersOf phaserOf
   phasers-left k r = reads-phasers u r ∙ fun-ext (λ p. go p (openAt t p))
     where
-      entry : (p j : ℕ) (b : Bool) → cond {A = Option ℕ} (cond b false (memberAt t j p)) (some (cond b 0 (phaseAt t j p))) none ≡ cond b none (phaserOf t p j)
+      entry : (p j : ℕ) (b : Bool)
+          → cond {A = Option ℕ} (cond b false (memberAt t j p)) (some (cond b 0 (phaseAt t j p))) none ≡ cond b none (phaserOf t p j)
       entry p j true = refl
       entry p j false = refl
 

@@ -25,13 +25,15 @@ module _ (there : ℕ → Bool) (bytes : ℕ → List ℕ) (m : ℕ) where
   all-count zero h = refl
   all-count (suc n) h = rw (h n (omega arith)) (omega (arith, all-count n (λ i l. h i (omega arith))))
 
-  all-gather : (n : ℕ) → ((i : ℕ) → i < n → there i ≡ true) → ((i : ℕ) → i < n → length (bytes i) ≡ m) → length (gather there bytes n) ≡ n * m
+  all-gather : (n : ℕ) → ((i : ℕ) → i < n → there i ≡ true) → ((i : ℕ) → i < n → length (bytes i) ≡ m)
+      → length (gather there bytes n) ≡ n * m
   all-gather zero h g = omega arith
   all-gather (suc n) h g =
-      rw (h n (omega arith))
-      (length-append (gather there bytes n) (bytes n) ∙ omega (arith, all-gather n (λ i l. h i (omega arith)) (λ i l. g i (omega arith)), g n (omega arith)))
+      let before = all-gather n (λ i l. h i (omega arith)) (λ i l. g i (omega arith)) in
+      rw (h n (omega arith)) (length-append (gather there bytes n) (bytes n) ∙ omega (arith, before, g n (omega arith)))
 
-  all-listed : (n : ℕ) → n < 128 → ((i : ℕ) → i < n → there i ≡ true) → ((i : ℕ) → i < n → length (bytes i) ≡ m) → length (listed there bytes n) ≡ 1 + n * m
+  all-listed : (n : ℕ) → n < 128 → ((i : ℕ) → i < n → there i ≡ true) → ((i : ℕ) → i < n → length (bytes i) ≡ m)
+      → length (listed there bytes n) ≡ 1 + n * m
   unfolding listed
   all-listed n l h g =
       length-append (numberBytes (count there n)) (gather there bytes n)

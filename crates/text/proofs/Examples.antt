@@ -29,7 +29,8 @@ unfolding verdictText tasksIn numbered decimal digitsOf
 refusal-text = refl
 
 pub edge-numbers : numbered (9 ∷ 10 ∷ 255 ∷ 4294967295 ∷ [])
-    ≡ (32 ∷ 57 ∷ []) ++ (32 ∷ 49 ∷ 48 ∷ []) ++ (32 ∷ 50 ∷ 53 ∷ 53 ∷ []) ++ (32 ∷ 52 ∷ 50 ∷ 57 ∷ 52 ∷ 57 ∷ 54 ∷ 55 ∷ 50 ∷ 57 ∷ 53 ∷ [])
+    ≡ (32 ∷ 57 ∷ []) ++ (32 ∷ 49 ∷ 48 ∷ []) ++ (32 ∷ 50 ∷ 53 ∷ 53 ∷ [])
+    ++ (32 ∷ 52 ∷ 50 ∷ 57 ∷ 52 ∷ 57 ∷ 54 ∷ 55 ∷ 50 ∷ 57 ∷ 53 ∷ [])
 unfolding numbered decimal digitsOf
 edge-numbers = refl
 

@@ -39,7 +39,8 @@ module _ (t : Text) where
   unfolding textWith
   added b h = record { says = go }
     where
-      go : (l : List ℕ) → t ≡ textWith l → _≡_ {A = Text} (record { bytes = set (t .bytes) (t .length) b; length = t .length + 1 }) (textWith (l ++ (b ∷ [])))
+      go : (l : List ℕ) → t ≡ textWith l
+          → _≡_ {A = Text} (record { bytes = set (t .bytes) (t .length) b; length = t .length + 1 }) (textWith (l ++ (b ∷ [])))
       go l says =
           let k = rw (says, length-take) at h in
           let j : length l < 256 = omega arith in

@@ -46,13 +46,13 @@ no-event-requires-2 : tie.Need-no-event-requires-2
 no-event-requires-2 c κs = search needs
 
 -- a phaser was read, and it is open; or it is not
-event-open : (s : List ℕ) (opened : List Bool) (floor at phaser next : ℕ) → risingAt s 15 floor at ≡ value phaser next → getD opened phaser false ≡ true
-    → eventAt s opened floor at ≡ phaseOn s phaser next
+event-open : (s : List ℕ) (opened : List Bool) (floor at phaser next : ℕ) → risingAt s 15 floor at ≡ value phaser next
+    → getD opened phaser false ≡ true → eventAt s opened floor at ≡ phaseOn s phaser next
 unfolding eventAt
 event-open s opened floor at phaser next e o = rw (e, o)
 
-event-shut : (s : List ℕ) (opened : List Bool) (floor at phaser next : ℕ) → risingAt s 15 floor at ≡ value phaser next → getD opened phaser false ≡ false
-    → eventAt s opened floor at ≡ refused notOpen
+event-shut : (s : List ℕ) (opened : List Bool) (floor at phaser next : ℕ) → risingAt s 15 floor at ≡ value phaser next
+    → getD opened phaser false ≡ false → eventAt s opened floor at ≡ refused notOpen
 unfolding eventAt
 event-shut s opened floor at phaser next e o = rw (e, o)
 

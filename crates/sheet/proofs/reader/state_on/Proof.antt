@@ -31,7 +31,8 @@ unfolding stateOn
 returns c = rw (c .after .ensures, ← c .before .before .before .plain .ensures, c .before .enum-told .given .1)
 
 -- the state's number was read: 0, 1 or any other
-state-running : (s : List ℕ) (opened : List Bool) (at kind next : ℕ) → plainAt s at ≡ value kind next → kind ≡ 0 → stateOn s opened at ≡ value Running next
+state-running : (s : List ℕ) (opened : List Bool) (at kind next : ℕ) → plainAt s at ≡ value kind next → kind ≡ 0
+    → stateOn s opened at ≡ value Running next
 unfolding stateOn
 state-running s opened at kind next e k = rw (e, eq-eqb kind 0 k)
 
