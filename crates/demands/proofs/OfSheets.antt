@@ -15,7 +15,7 @@ use Rattle.hall.specs.declared.table.Table.{Table}
 use Rattle.judge.specs.Verdict.{noRoute, nobody, Judged}
 use Rattle.judge.specs.declared.verdict.Verdict.{Verdict}
 use Rattle.sheet.specs.Answers.{sheetAnswers}
-use Rattle.sheet.specs.Fields.{Sheet, hands, sheetAt}
+use Rattle.sheet.specs.Reader.{Sheet, hands, sheetAt}
 use Rattle.sheet.proofs.Numbers.{Bytes}
 use Rattle.sheet.proofs.Theorems.{accepts, no-longer, settled, answers, refused-fresh}
 use Rattle.mollavisce.specs.Entry.{SheetJudged, Entered, shortStrip}

@@ -13,7 +13,7 @@ use Rattle.judge.proofs.Named.{task-one, event-one}
 use Rattle.judge.proofs.One.{judged-one}
 use Rattle.text.specs.Text.{textWith}
 use Rattle.text.specs.Verdict.{verdictText}
-use Rattle.sheet.specs.Fields.{Sheet}
+use Rattle.sheet.specs.Reader.{Sheet}
 use Rattle.sheet.proofs.Theorems.{one-number}
 use Rattle.mollavisce.proofs.One.{sheet-judged-one, entered-one}
 use Rattle.demands.specs.OneAnswer.{One, OneLent, OneAnswer}

@@ -22,7 +22,7 @@ use Rattle.text.specs.Text.{textWith}
 use Rattle.text.specs.Verdict.{verdictText}
 use Rattle.text.specs.declared.text.Text.{Text}
 use Rattle.sheet.specs.Answers.{sheetAnswers}
-use Rattle.sheet.specs.Fields.{hands, sheetAt}
+use Rattle.sheet.specs.Reader.{hands, sheetAt}
 use Rattle.sheet.specs.Written.{sheetOf}
 use Rattle.mollavisce.specs.Entry.{shortStrip, entryAnswers, SheetJudged, Entered}
 use Rattle.mollavisce.specs.Strip.{verdictIn}

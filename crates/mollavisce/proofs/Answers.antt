@@ -11,7 +11,7 @@ use Rattle.hall.proofs.Soundness.{sound-iff}
 use Rattle.judge.specs.Verdict.{noRoute}
 use Rattle.judge.specs.declared.verdict.Verdict.{Verdict}
 use Rattle.judge.proofs.Answers.{answer-0}
-use Rattle.sheet.specs.Fields.{sheetAt}
+use Rattle.sheet.specs.Reader.{sheetAt}
 use Rattle.sheet.proofs.Numbers.{Bytes}
 use Rattle.sheet.proofs.Theorems.{accepts, answers}
 use Rattle.mollavisce.specs.Entry.{SheetJudged, Entered, shortStrip, entryAnswers}

@@ -17,7 +17,7 @@ use Rattle.judge.specs.Verdict.{ImpedesTask}
 use Rattle.judge.specs.declared.verdict.Verdict.{Verdict}
 use Rattle.judge.proofs.Answers.{Holds, judged-holds, answer-0}
 use Rattle.sets.proofs.Widths.{members-fit}
-use Rattle.sheet.specs.Fields.{sheetAt}
+use Rattle.sheet.specs.Reader.{sheetAt}
 use Rattle.mollavisce.specs.Entry.{SheetJudged}
 
 -- the mask is of 32 tasks, count and ring length are bytes, the ring has 32 places

@@ -8,7 +8,7 @@ use lib.ListN.{length}
 use Rattle.hall.specs.Answers.{done}
 use Rattle.judge.specs.declared.verdict.Verdict.{Verdict}
 use Rattle.judge.proofs.One.{judged-one}
-use Rattle.sheet.specs.Fields.{sheetAt}
+use Rattle.sheet.specs.Reader.{sheetAt}
 use Rattle.mollavisce.specs.Entry.{SheetJudged, Entered}
 use Rattle.mollavisce.specs.Strip.{stripAfter}
 

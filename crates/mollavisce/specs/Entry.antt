@@ -8,7 +8,7 @@ use Rattle.judge.specs.Verdict.{nobody, noRoute, Judged}
 use Rattle.judge.specs.declared.verdict.Verdict.{Verdict}
 use Rattle.mollavisce.specs.Strip.{stripAfter}
 use Rattle.sheet.specs.Answers.{sheetAnswers}
-use Rattle.sheet.specs.Fields.{sheetAt}
+use Rattle.sheet.specs.Reader.{sheetAt}
 
 -- 40: answer strip under 38 bytes
 abbrev pub shortStrip : ℕ

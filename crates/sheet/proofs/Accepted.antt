@@ -17,10 +17,13 @@ use Rattle.hall.specs.declared.table.Table.{Table}
 use Rattle.hall.proofs.Places.{open-in, open-below}
 use Rattle.hall.proofs.Written.{put-at-here, put-at-other, state-reads, entry-reads}
 use Rattle.hall.proofs.Soundness.{awaitSound, getD-all}
-use Rattle.sheet.specs.declared.reader.Entry.{Entry}
-use Rattle.sheet.specs.declared.reader.Head.{Head}
+use Rattle.sheet.specs.declared.entry.Entry.{Entry}
+use Rattle.sheet.specs.declared.head.Head.{Head}
 use Rattle.sheet.specs.Number.{numberBytes}
-use Rattle.sheet.specs.Fields.{Rising, rising, each, openStep, opensAt, countAt, listsAt, headAt, phaseOn, eventAt, blockedAt, stateOn, entryOf, countOn, entryOn, entryAt, memberStep, membersAt, taskStep, tasksAt, entriesAt, tableAt}
+use Rattle.sheet.specs.Got.{Rising, rising, each}
+use Rattle.sheet.specs.Head.{openStep, opensAt, countAt, listsAt, headAt}
+use Rattle.sheet.specs.Entry.{phaseOn, eventAt, blockedAt, stateOn, entryOf, countOn, entryOn, entryAt}
+use Rattle.sheet.specs.Reader.{memberStep, membersAt, taskStep, tasksAt, entriesAt, tableAt}
 use Rattle.sheet.specs.Written.{listed, stateBytes, memberBytes, taskBytes, liveAt, sheetOf}
 use Rattle.sheet.proofs.Same.{Ok, fine, none, same-onward, same-times, same-if}
 use Rattle.sheet.proofs.Numbers.{Bytes, plain-ok, number-ok, rising-ok}

@@ -8,9 +8,11 @@ use Rattle.hall.specs.Effects.{withState, withEntry}
 use Rattle.hall.specs.Table.{event, stateAt, openAt, memberAt, phaseAt, freshTable}
 use Rattle.hall.specs.declared.table.State.the-variants.{Blocked}
 use Rattle.hall.specs.declared.table.Table.{Table}
-use Rattle.sheet.specs.Got.{refused}
+use Rattle.sheet.specs.Got.{refused, each}
 use Rattle.sheet.specs.Number.{plainAt, numberAt, risingAt, numberBytes}
-use Rattle.sheet.specs.Fields.{each, openStep, opensAt, countAt, listsAt, headAt, phaseOn, eventAt, blockedAt, stateOn, countOn, entryOn, entryAt, memberStep, membersAt, taskStep, tasksAt, entriesAt, tableAt, sheetAt}
+use Rattle.sheet.specs.Head.{openStep, opensAt, countAt, listsAt, headAt}
+use Rattle.sheet.specs.Entry.{phaseOn, eventAt, blockedAt, stateOn, countOn, entryOn, entryAt}
+use Rattle.sheet.specs.Reader.{memberStep, membersAt, taskStep, tasksAt, entriesAt, tableAt, sheetAt}
 use Rattle.sheet.specs.Written.{listed, sheetOf}
 use Rattle.sheet.proofs.Fewest.{fewest}
 

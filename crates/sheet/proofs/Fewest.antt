@@ -10,12 +10,14 @@ use borrow.Author.Tests.{leb-false, ltb-true}
 use Rattle.hall.specs.Table.{largestPhase}
 use Rattle.hall.specs.Effects.{withState}
 use Rattle.hall.specs.declared.table.Table.{Table}
-use Rattle.sheet.specs.declared.reader.Entry.{Entry}
-use Rattle.sheet.specs.declared.reader.Head.{Head}
+use Rattle.sheet.specs.declared.entry.Entry.{Entry}
+use Rattle.sheet.specs.declared.head.Head.{Head}
 use Rattle.sheet.specs.Answers.{endsInside, needlessGroup, tooLarge, notRising, unknown, bytesAfter, notOpen}
-use Rattle.sheet.specs.Got.{Got}
+use Rattle.sheet.specs.Got.{Got, Rising, rising, each}
 use Rattle.sheet.specs.Number.{further, groupsAt, plainAt, numberAt, risingAt}
-use Rattle.sheet.specs.Fields.{Rising, rising, each, openStep, opensAt, countAt, listsAt, headAt, phaseOn, eventAt, blockedAt, stateOn, countOn, entryOn, entryAt, memberStep, membersAt, taskStep, noTasks, tasksAt, entriesAt, tableAt}
+use Rattle.sheet.specs.Head.{openStep, opensAt, countAt, listsAt, headAt}
+use Rattle.sheet.specs.Entry.{phaseOn, eventAt, blockedAt, stateOn, countOn, entryOn, entryAt}
+use Rattle.sheet.specs.Reader.{memberStep, membersAt, taskStep, noTasks, tasksAt, entriesAt, tableAt}
 use Rattle.sheet.proofs.Same.{Agree, fine, none, same-onward, same-times, same-if}
 
 -- the fewest bytes that get an answer: that of 0, acceptance, and those of 30 to 36 in their order

@@ -2,14 +2,13 @@
 use Prim.Native.Nat.{ℕ, suc, _-_, _<_}
 use mathlib.Core.Path.{_≡_, refl, sym, ap, _∙_}
 use native.Mathlib.Omega.{arith}
-use Rattle.sheet.specs.Got.{Got, value, refused, onward, times}
+use Rattle.sheet.specs.Got.{Got, value, refused, onward, times, Rising, rising}
 use Rattle.sheet.specs.declared.number.Number.{Number}
 use Rattle.sheet.specs.declared.number.Number.the-variants.{Value, Refused as NoNumber}
-use Rattle.sheet.specs.declared.reader.Place.{Place}
-use Rattle.sheet.specs.declared.reader.Place.the-variants.{At, Refused}
+use Rattle.sheet.specs.declared.place.Place.{Place}
+use Rattle.sheet.specs.declared.place.Place.the-variants.{At, Refused}
 use Rattle.sheet.specs.Number.{outcome}
 use Rattle.sheet.specs.Places.{placed, nextOf, remainingOf}
-use Rattle.sheet.specs.Fields.{Rising, rising}
 
 -- what was read in the end was read from something
 pub record Came {A B : Type 0} (g : Got A) (k : A → ℕ → Got B) (b : B) (next : ℕ) : Type 0 where

@@ -11,11 +11,13 @@ use borrow.Author.Tests.{eqb-true, le-leb, lt-leb, leb-true, leb-false, ltb-fals
 use Rattle.hall.specs.Table.{largestPhase}
 use Rattle.hall.specs.Effects.{withState}
 use Rattle.hall.specs.declared.table.Table.{Table}
-use Rattle.sheet.specs.declared.reader.Entry.{Entry}
-use Rattle.sheet.specs.declared.reader.Head.{Head}
-use Rattle.sheet.specs.Got.{value}
+use Rattle.sheet.specs.declared.entry.Entry.{Entry}
+use Rattle.sheet.specs.declared.head.Head.{Head}
+use Rattle.sheet.specs.Got.{value, rising, each}
 use Rattle.sheet.specs.Number.{further, groupsAt, plainAt, numberAt, risingAt}
-use Rattle.sheet.specs.Fields.{rising, each, openStep, opensAt, countAt, listsAt, headAt, phaseOn, eventAt, blockedAt, stateOn, entryOf, countOn, entryOn, entryAt, memberStep, membersAt, taskStep, noTasks, tasksAt, entriesAt, tableAt}
+use Rattle.sheet.specs.Head.{openStep, opensAt, countAt, listsAt, headAt}
+use Rattle.sheet.specs.Entry.{phaseOn, eventAt, blockedAt, stateOn, entryOf, countOn, entryOn, entryAt}
+use Rattle.sheet.specs.Reader.{memberStep, membersAt, taskStep, noTasks, tasksAt, entriesAt, tableAt}
 use Rattle.sheet.proofs.Same.{Same, fine, none, same-onward, same-times, same-if, same-equal, same-holds}
 use Rattle.sheet.proofs.Numbers.{Bytes, anyNumber, Read, plain-ok, number-ok, rising-ok, one-byte}
 

@@ -9,15 +9,17 @@ use lib.ListN.{set, length}
 use Rattle.hall.specs.Effects.{withState, withEntry}
 use Rattle.hall.specs.declared.table.Event.{Event}
 use Rattle.hall.specs.declared.table.Table.{Table}
-use Rattle.sheet.specs.declared.reader.Entry.{Entry}
-use Rattle.sheet.specs.declared.reader.Head.{Head}
-use Rattle.sheet.specs.declared.reader.Place.{Place}
-use Rattle.sheet.specs.declared.reader.Place.the-variants.{At, Refused}
+use Rattle.sheet.specs.declared.entry.Entry.{Entry}
+use Rattle.sheet.specs.declared.head.Head.{Head}
+use Rattle.sheet.specs.declared.place.Place.{Place}
+use Rattle.sheet.specs.declared.place.Place.the-variants.{At, Refused}
 use Rattle.sheet.specs.Answers.{bytesAfter}
-use Rattle.sheet.specs.Got.{Got, value, refused, onward}
+use Rattle.sheet.specs.Got.{Got, value, refused, onward, Rising, rising, each}
 use Rattle.sheet.specs.Places.{placed, remainingOf, endOf}
 use Rattle.sheet.specs.Number.{risingAt}
-use Rattle.sheet.specs.Fields.{Rising, rising, each, openStep, eventAt, entryAt, memberStep, membersAt, taskStep, noTasks, tasksAt, ended, entriesAt}
+use Rattle.sheet.specs.Head.{openStep}
+use Rattle.sheet.specs.Entry.{eventAt, entryAt}
+use Rattle.sheet.specs.Reader.{memberStep, membersAt, taskStep, noTasks, tasksAt, ended, entriesAt}
 use Rattle.sheet.proofs.Onward.{going, gone, gone-start, gone-end}
 
 module _ (s : List ℕ) (r : Rising (List Bool)) (at : ℕ) where

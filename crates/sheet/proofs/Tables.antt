@@ -15,7 +15,7 @@ use Rattle.hall.specs.declared.table.Table.{Table}
 use Rattle.hall.proofs.Lists.{clash, decide}
 use Rattle.hall.proofs.Written.{Reads, put-here, put-other, put-at-other, state-shaped, state-reads, entry-shaped, entry-reads}
 use Rattle.hall.proofs.Soundness.{awaitSound, FineTable, sound-fine, fine-sound, sound-iff, fresh-shaped, fresh-reads, reads-fine, put-state, put-entry}
-use Rattle.sheet.specs.Fields.{noTasks}
+use Rattle.sheet.specs.Reader.{noTasks}
 use Rattle.sheet.specs.Written.{memberBytes, taskBytes}
 use Rattle.sheet.proofs.Gather.{listed-same}
 

@@ -16,7 +16,7 @@ use Rattle.sheet.specs.declared.number.Number.the-variants.{Value, Refus
 use Rattle.sheet.specs.Answers.{sheetAnswers}
 use Rattle.sheet.specs.Got.{Got, value, refused}
 use Rattle.sheet.specs.Number.{outcome}
-use Rattle.sheet.specs.Fields.{tableAt, handed, sheetAt}
+use Rattle.sheet.specs.Reader.{tableAt, handed, sheetAt}
 use Rattle.sheet.specs.Written.{sheetOf}
 use Rattle.sheet.proofs.Same.{Agree, Same, fine, none, same-holds}
 use Rattle.sheet.proofs.Numbers.{Bytes}

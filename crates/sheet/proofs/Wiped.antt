@@ -12,10 +12,11 @@ use Rattle.hall.specs.Table.{freeTask, phase0, freshTable}
 use Rattle.hall.specs.declared.table.Table.{Table}
 use Rattle.hall.specs.declared.table.Task.{Task}
 use Rattle.hall.proofs.Soundness.{getD-all}
-use Rattle.sheet.specs.declared.reader.Place.{Place}
-use Rattle.sheet.specs.declared.reader.Place.the-variants.{At, Refused}
+use Rattle.sheet.specs.declared.place.Place.{Place}
+use Rattle.sheet.specs.declared.place.Place.the-variants.{At, Refused}
 use Rattle.sheet.specs.Places.{placed, risenOf}
-use Rattle.sheet.specs.Fields.{rising, taskStep}
+use Rattle.sheet.specs.Got.{rising}
+use Rattle.sheet.specs.Reader.{taskStep}
 use Rattle.sheet.proofs.Bounds.{task-rises}
 
 pub record FreeFrom (n : ℕ) (tasks : List Task) : Type 0 where

@@ -16,9 +16,11 @@ use Rattle.hall.specs.declared.table.Table.{Table}
 use Rattle.hall.proofs.Lists.{clash}
 use Rattle.hall.proofs.Places.{state-in, open-in, member-in, phase-in, open-below}
 use Rattle.hall.proofs.Soundness.{getD-all}
-use Rattle.sheet.specs.Got.{Got, value, refused, onward, times}
+use Rattle.sheet.specs.Got.{Got, value, refused, onward, times, Rising, rising, each}
 use Rattle.sheet.specs.Number.{numberAt, numberBytes}
-use Rattle.sheet.specs.Fields.{Rising, rising, each, openStep, opensAt, countAt, listsAt, headAt, phaseOn, eventAt, blockedAt, stateOn, countOn, entryOn, entryAt, memberStep, membersAt, taskStep, noTasks, tasksAt, entriesAt, tableAt}
+use Rattle.sheet.specs.Head.{openStep, opensAt, countAt, listsAt, headAt}
+use Rattle.sheet.specs.Entry.{phaseOn, eventAt, blockedAt, stateOn, countOn, entryOn, entryAt}
+use Rattle.sheet.specs.Reader.{memberStep, membersAt, taskStep, noTasks, tasksAt, entriesAt, tableAt}
 use Rattle.sheet.specs.Written.{count, gather, listed, stateBytes, memberBytes, taskBytes, liveAt, sheetOf}
 use Rattle.sheet.proofs.Numbers.{anyNumber, read-plain, read-number, read-rising}
 use Rattle.sheet.proofs.Gather.{count-le}

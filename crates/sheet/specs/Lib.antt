@@ -2,5 +2,7 @@ pub mod Answers
 pub mod Got
 pub mod Number
 pub mod Places
-pub mod Fields
+pub mod Head
+pub mod Entry
+pub mod Reader
 pub mod Written

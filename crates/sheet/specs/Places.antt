@@ -7,8 +7,8 @@ use lib.ListN.{length}
 use Rattle.sheet.specs.Answers.{bytesAfter}
 use Rattle.sheet.specs.declared.number.Number.{Number}
 use Rattle.sheet.specs.declared.number.Number.the-variants.{Value, Refused as NoNumber}
-use Rattle.sheet.specs.declared.reader.Place.{Place}
-use Rattle.sheet.specs.declared.reader.Place.the-variants.{At, Refused}
+use Rattle.sheet.specs.declared.place.Place.{Place}
+use Rattle.sheet.specs.declared.place.Place.the-variants.{At, Refused}
 use Rattle.sheet.specs.Got.{Got, value, refused}
 
 -- a part that was read, with its next place or its refusal

@@ -1,4 +1,7 @@
 // The hall sheet: its numbers, and its reader.
-pub mod answers;
+mod answers;
+mod entry;
+mod head;
 pub mod number;
+mod place;
 pub mod reader;

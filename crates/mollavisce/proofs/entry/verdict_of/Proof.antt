@@ -3,7 +3,7 @@ use mathlib.Core.Path.{ap, sym, _∙_, subst}
 use native.Mathlib.Omega.{arith}
 use borrow.Author.Needs.{needs}
 use Rattle.judge.specs.Verdict.{nobody, Judged}
-use Rattle.sheet.specs.Fields.{Sheet}
+use Rattle.sheet.specs.Reader.{Sheet}
 use Rattle.mollavisce.proofs.entry.verdict_of.Statement.{statement}
 use Rattle.mollavisce.proofs.entry.verdict_of.Tie as tie
 

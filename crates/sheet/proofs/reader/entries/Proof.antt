@@ -6,7 +6,8 @@ use mathlib.Core.Path.{_≡_, refl, sym, ap, _∙_}
 use Prim.Native.Nat.{_+_, _-_}
 use Rattle.hall.specs.Effects.{withState, withEntry}
 use Rattle.sheet.specs.Places.{remainingOf, risenOf}
-use Rattle.sheet.specs.Fields.{rising, memberStep, taskStep, noTasks, hands, handed}
+use Rattle.sheet.specs.Got.{rising}
+use Rattle.sheet.specs.Reader.{memberStep, taskStep, noTasks, hands, handed}
 use Rattle.sheet.proofs.Onward.{gone, gone-start, gone-turn, gone-end, remaining-settled, remaining-less}
 use Rattle.sheet.proofs.Steps.{member-made, task-made, entries-made}
 use Rattle.sheet.proofs.Wiped.{FreeFrom, free-start, free-risen, Wiped, wipe-one, wiped-fresh}

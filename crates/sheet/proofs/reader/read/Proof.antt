@@ -1,7 +1,7 @@
 use borrow.Author.Needs.{needs}
 use mathlib.Core.Path.{ap, _∙_}
 use Rattle.sheet.specs.Got.{onward}
-use Rattle.sheet.specs.Fields.{sheetAt, tableAt, entriesAt, handed}
+use Rattle.sheet.specs.Reader.{sheetAt, tableAt, entriesAt, handed}
 use Rattle.sheet.proofs.reader.read.Statement.{statement}
 use Rattle.sheet.proofs.reader.read.Tie as tie
 
