@@ -8,7 +8,7 @@ use Rattle.sheet.specs.declared.number.Number.the-variants.{Value, Refus
 use Rattle.sheet.specs.declared.place.Place.{Place}
 use Rattle.sheet.specs.declared.place.Place.the-variants.{At, Refused}
 use Rattle.sheet.specs.Number.{outcome}
-use Rattle.sheet.specs.Places.{placed, nextOf, remainingOf}
+use Rattle.sheet.specs.Parts.{placed, nextOf, remainingOf}
 
 -- what was read in the end was read from something
 pub record Came {A B : Type 0} (g : Got A) (k : A → ℕ → Got B) (b : B) (next : ℕ) : Type 0 where

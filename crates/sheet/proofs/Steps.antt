@@ -15,11 +15,11 @@ use Rattle.sheet.specs.declared.place.Place.{Place}
 use Rattle.sheet.specs.declared.place.Place.the-variants.{At, Refused}
 use Rattle.sheet.specs.Answers.{bytesAfter}
 use Rattle.sheet.specs.Got.{Got, value, refused, onward, Rising, rising, each}
-use Rattle.sheet.specs.Places.{placed, remainingOf, endOf}
+use Rattle.sheet.specs.Parts.{placed, remainingOf, endedOf}
 use Rattle.sheet.specs.Number.{risingAt}
 use Rattle.sheet.specs.Head.{openStep}
 use Rattle.sheet.specs.Entry.{eventAt, entryAt}
-use Rattle.sheet.specs.Reader.{memberStep, membersAt, taskStep, noTasks, tasksAt, ended, entriesAt}
+use Rattle.sheet.specs.Reader.{memberStep, membersAt, taskStep, noTasks, tasksAt, endedAt, entriesAt}
 use Rattle.sheet.proofs.Onward.{going, gone, gone-start, gone-end}
 
 module _ (s : List ℕ) (r : Rising (List Bool)) (at : ℕ) where
@@ -60,16 +60,16 @@ module _ (s : List ℕ) (opened : List Bool) (floor at : ℕ) (t : Table) (place
           onward-refused (Refused m) g = cc
 
 -- ---- and the end
-end-made : (s : List ℕ) (t : Table) (place : Place) → placed (endOf s place) t ≡ onward (placed place t) (ended s)
-end-made s t (At at) = go (ltb at (length s))
+ended-made : (s : List ℕ) (t : Table) (place : Place) → placed (endedOf s place) t ≡ onward (placed place t) (endedAt s)
+ended-made s t (At at) = go (ltb at (length s))
   where
     go : (b : Bool) → placed (cond b (Refused bytesAfter) (At at)) t ≡ cond b (refused bytesAfter) (value t at)
     go true = refl
     go false = refl
-end-made s t (Refused n) = refl
+ended-made s t (Refused n) = refl
 
 module _ (s : List ℕ) (h : Head) where
-  all-made : (first : Place) → onward (placed first h) (entriesAt s) ≡ onward (gone (taskStep s (h .opened)) first (h .count) 0 (noTasks (h .opened))) (ended s)
+  all-made : (first : Place) → onward (placed first h) (entriesAt s) ≡ onward (gone (taskStep s (h .opened)) first (h .count) 0 (noTasks (h .opened))) (endedAt s)
   unfolding entriesAt tasksAt each gone going
   all-made (At at) = refl
   all-made (Refused n) = refl
@@ -77,8 +77,8 @@ module _ (s : List ℕ) (h : Head) where
   -- no task is left to read
   pub entries-made : (first place : Place) (all left floor : ℕ) (t : Table) → all ≡ remainingOf first (h .count) → left ≡ 0 →
       gone (taskStep s (h .opened)) place left floor t ≡ gone (taskStep s (h .opened)) first all 0 (noTasks (h .opened)) →
-      placed (endOf s place) t ≡ onward (placed first h) (entriesAt s)
+      placed (endedOf s place) t ≡ onward (placed first h) (entriesAt s)
   entries-made first place all left floor t a l g =
       let step = taskStep s (h .opened) in
       let start : gone step first all 0 (noTasks (h .opened)) ≡ gone step first (h .count) 0 (noTasks (h .opened)) = rw a (gone-start step first (h .count) 0 (noTasks (h .opened))) in
-      end-made s t place ∙ ap (λ u. onward u (ended s)) (gone-end step place left floor t l ∙ g ∙ start) ∙ sym (all-made first)
+      ended-made s t place ∙ ap (λ u. onward u (endedAt s)) (gone-end step place left floor t l ∙ g ∙ start) ∙ sym (all-made first)

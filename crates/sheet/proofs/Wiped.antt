@@ -14,7 +14,7 @@ use Rattle.hall.specs.declared.table.Task.{Task}
 use Rattle.hall.proofs.Soundness.{getD-all}
 use Rattle.sheet.specs.declared.place.Place.{Place}
 use Rattle.sheet.specs.declared.place.Place.the-variants.{At, Refused}
-use Rattle.sheet.specs.Places.{placed, risenOf}
+use Rattle.sheet.specs.Parts.{placed, risenOf}
 use Rattle.sheet.specs.Got.{rising}
 use Rattle.sheet.specs.Reader.{taskStep}
 use Rattle.sheet.proofs.Bounds.{task-rises}

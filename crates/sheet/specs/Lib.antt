@@ -1,7 +1,7 @@
 pub mod Answers
 pub mod Got
 pub mod Number
-pub mod Places
+pub mod Parts
 pub mod Head
 pub mod Entry
 pub mod Reader

@@ -35,11 +35,11 @@ unfoldable pub tasksAt : List ℕ → Head → ℕ → Got Table
 tasksAt s h at = each (taskStep s (h .opened)) (h .count) (noTasks (h .opened)) at
 
 -- "35 comes last"
-abbrev pub ended : List ℕ → Table → ℕ → Got Table
-ended s t at = cond (ltb at (length s)) (refused bytesAfter) (value t at)
+abbrev pub endedAt : List ℕ → Table → ℕ → Got Table
+endedAt s t at = cond (ltb at (length s)) (refused bytesAfter) (value t at)
 
 unfoldable pub entriesAt : List ℕ → Head → ℕ → Got Table
-entriesAt s h at = onward (tasksAt s h at) (ended s)
+entriesAt s h at = onward (tasksAt s h at) (endedAt s)
 
 unfoldable pub tableAt : List ℕ → Got Table
 tableAt s = onward (headAt s) (entriesAt s)

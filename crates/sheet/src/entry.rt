@@ -1,7 +1,7 @@
 // A task's entry (document 01, "Fields"): its number, its state, how many memberships, and each of them.
 ghost use mathlib.Core.Path.{_≡_};
 ghost use Prim.Native.Nat.{_≤_};
-ghost use Rattle.sheet.specs.Places.{placed};
+ghost use Rattle.sheet.specs.Parts.{placed};
 ghost use Rattle.sheet.specs.Entry.{phaseOn, eventAt, blockedAt, stateOn, countOn, entryOn, entryAt};
 use crate::answers::NOT_OPEN;
 use crate::answers::UNKNOWN;

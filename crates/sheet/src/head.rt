@@ -3,7 +3,7 @@ ghost use mathlib.Core.Path.{_≡_};
 ghost use mathlib.Core.Bool.{false};
 ghost use lib.ListN.{replicate};
 ghost use Rattle.sheet.specs.Got.{each};
-ghost use Rattle.sheet.specs.Places.{placed};
+ghost use Rattle.sheet.specs.Parts.{placed};
 ghost use Rattle.sheet.specs.Head.{openStep, opensAt, countAt, listsAt, headAt};
 use crate::answers::UNKNOWN;
 use crate::number;

@@ -1,7 +1,7 @@
 // The place that the parts of the reader hand each other.
 ghost use mathlib.Core.Path.{_≡_};
 ghost use Prim.Native.Nat.{_≤_};
-ghost use Rattle.sheet.specs.Places.{placeAfter, nextOf, remainingOf, risenOf, endOf};
+ghost use Rattle.sheet.specs.Parts.{afterOf, nextOf, remainingOf, risenOf, endedOf};
 use crate::answers::BYTES_AFTER;
 use crate::number::Number;
 
@@ -12,7 +12,7 @@ pub enum Place {
 }
 
 pub fn after(number: Number) -> Place
-    ensures { λ r. ⌜ r ≡ placeAfter number ⌝ }
+    ensures { λ r. ⌜ r ≡ afterOf number ⌝ }
 {
     match number {
         Number::Value(_, next) => Place::At(next),
@@ -53,7 +53,7 @@ pub fn risen(place: Place, number: u64) -> u64
 
 // Bytes after the sheet are refused last.
 pub fn ended(sheet: &[u8], place: Place) -> Place
-    ensures { λ r. ⌜ r ≡ endOf (now (sheet .entry)) place ⌝ }
+    ensures { λ r. ⌜ r ≡ endedOf (now (sheet .entry)) place ⌝ }
 {
     let Place::At(at) = place else {
         return place;

@@ -1,7 +1,7 @@
 // The reader of a hall sheet. Head and entry are small values; only `entries` holds the table.
 ghost use mathlib.Core.Path.{_≡_};
 ghost use Rattle.sheet.specs.Got.{onward};
-ghost use Rattle.sheet.specs.Places.{placed};
+ghost use Rattle.sheet.specs.Parts.{placed};
 ghost use Rattle.sheet.specs.Reader.{noTasks, entriesAt, hands, handed, sheetAt};
 use crate::entry::entry_at;
 use crate::entry::event_at;

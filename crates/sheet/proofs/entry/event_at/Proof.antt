@@ -9,7 +9,7 @@ use Rattle.sheet.specs.Answers.{notOpen}
 use Rattle.sheet.specs.Entry.{phaseOn, eventAt}
 use Rattle.sheet.specs.Got.{value, refused}
 use Rattle.sheet.specs.Number.{risingAt}
-use Rattle.sheet.specs.Places.{placed}
+use Rattle.sheet.specs.Parts.{placed}
 use Rattle.sheet.specs.declared.place.Place.{Place}
 use Rattle.sheet.proofs.Onward.{number-read}
 use Rattle.sheet.proofs.Bounds.{rising-within}

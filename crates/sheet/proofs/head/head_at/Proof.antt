@@ -8,7 +8,7 @@ use Rattle.sheet.specs.Answers.{unknown}
 use Rattle.sheet.specs.Head.{listsAt, headAt}
 use Rattle.sheet.specs.Got.{value, refused}
 use Rattle.sheet.specs.Number.{plainAt}
-use Rattle.sheet.specs.Places.{placed}
+use Rattle.sheet.specs.Parts.{placed}
 use Rattle.sheet.specs.declared.place.Place.{Place}
 use Rattle.sheet.proofs.Onward.{number-read}
 use Rattle.sheet.proofs.head.head_at.Statement.{statement}

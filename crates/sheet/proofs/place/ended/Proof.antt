@@ -6,7 +6,7 @@ use borrow.Author.Needs.{needs}
 use borrow.Author.Tests.{lt-ltb, le-ltb}
 use lib.ListN.{length}
 use Rattle.sheet.specs.Answers.{bytesAfter}
-use Rattle.sheet.specs.Places.{endOf}
+use Rattle.sheet.specs.Parts.{endedOf}
 use Rattle.sheet.specs.declared.place.Place.{Place}
 use Rattle.sheet.specs.declared.place.Place.the-variants.{At, Refused}
 use Rattle.sheet.proofs.place.ended.Statement.{statement}
@@ -22,10 +22,10 @@ returns : tie.Need-returns
 returns c = search needs
 
 -- before the sheet's end bytes are left; from it on the place stays
-bytes-left : (s : List ℕ) (place : Place) (at : ℕ) → place ≡ At at → at < length s → Refused bytesAfter ≡ endOf s place
+bytes-left : (s : List ℕ) (place : Place) (at : ℕ) → place ≡ At at → at < length s → Refused bytesAfter ≡ endedOf s place
 bytes-left s place at e l = rw (e, lt-ltb at (length s) l)
 
-none-left : (s : List ℕ) (place : Place) (at : ℕ) → place ≡ At at → length s ≤ at → At at ≡ endOf s place
+none-left : (s : List ℕ) (place : Place) (at : ℕ) → place ≡ At at → length s ≤ at → At at ≡ endedOf s place
 none-left s place at e l = rw (e, le-ltb at (length s) l)
 
 returns-2 : tie.Need-returns-2

@@ -5,7 +5,7 @@ use native.Mathlib.Omega.{arith}
 use mathlib.Core.Path.{_≡_, refl, sym, ap, _∙_}
 use Prim.Native.Nat.{_+_, _-_}
 use Rattle.hall.specs.Effects.{withState, withEntry}
-use Rattle.sheet.specs.Places.{remainingOf, risenOf}
+use Rattle.sheet.specs.Parts.{remainingOf, risenOf}
 use Rattle.sheet.specs.Got.{rising}
 use Rattle.sheet.specs.Reader.{memberStep, taskStep, noTasks, hands, handed}
 use Rattle.sheet.proofs.Onward.{gone, gone-start, gone-turn, gone-end, remaining-settled, remaining-less}

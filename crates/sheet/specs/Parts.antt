@@ -1,4 +1,4 @@
--- Places and refusals of the reader's own parts: nobody need believe this file, since only promises of private functions name it.
+-- What the parts of the code hand each other; nobody need believe this file.
 use mathlib.Core.Bool.{cond}
 use mathlib.Core.List.{List}
 use Prim.Native.Nat.{ℕ, _+_}
@@ -17,9 +17,9 @@ placed (At next) a = value a next
 placed (Refused n) a = refused n
 
 -- the place after a number
-abbrev pub placeAfter : Number → Place
-placeAfter (Value v next) = At next
-placeAfter (NoNumber n) = Refused n
+abbrev pub afterOf : Number → Place
+afterOf (Value v next) = At next
+afterOf (NoNumber n) = Refused n
 
 -- where the reading goes on; after a refusal, anywhere
 abbrev pub nextOf : Place → ℕ
@@ -37,6 +37,6 @@ risenOf (At next) number = number + 1
 risenOf (Refused n) number = 32
 
 -- "35 comes last"
-abbrev pub endOf : List ℕ → Place → Place
-endOf s (At next) = cond (ltb next (length s)) (Refused bytesAfter) (At next)
-endOf s (Refused n) = Refused n
+abbrev pub endedOf : List ℕ → Place → Place
+endedOf s (At next) = cond (ltb next (length s)) (Refused bytesAfter) (At next)
+endedOf s (Refused n) = Refused n
