@@ -213,7 +213,7 @@ module _ (s : List ℕ) (eight : Bytes s) where
       same-onward (plain-ok s eight 0) (λ version first e.
       same-if _ (eqb version 1)
       (λ z. same-onward (opens-ok first) (λ o second f.
-      same-onward (number-ok s eight 32 second) (λ n next g. fine {a = record { opened = o; count = n }} (record {
+      same-onward (number-ok s eight 32 second) (λ n next g. fine {a = record { version = version; opened = o; count = n }} (record {
         long = f .long;
         bytes = g .bytes ∙ rw (f .bytes, e .bytes, eqb-true version 1 z);
       }))))

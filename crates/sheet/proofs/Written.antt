@@ -268,7 +268,7 @@ module _ (t : Table) (h : Sound t) (sh : Shaped t) (s : List ℕ) where
   tasks = whole (liveAt t) (taskBytes t) 32
 
   read-tasks : (at : ℕ) (rest : List ℕ) → drop at s ≡ tasks ++ rest →
-      tasksAt s (record { opened = t .opened; count = many (liveAt t) 32 }) at ≡ value t (at + length tasks)
+      tasksAt s (record { version = 1; opened = t .opened; count = many (liveAt t) 32 }) at ≡ value t (at + length tasks)
   unfolding tasksAt
   read-tasks at rest e =
       rw none-yet (read-each s (taskStep s (t .opened)) (liveAt t) (taskBytes t) (λ k. upTo k k 0) 32 (λ k at floor rest hk. read-task k hk at floor rest) task-passed at rest e)

@@ -17,12 +17,12 @@ unfoldable pub opensAt : List ℕ → ℕ → Got (List Bool)
 opensAt s at = onward (numberAt s 16 at) (λ n first. each (openStep s) n (replicate 16 false) first)
 
 -- "how many live tasks (up to 32)"
-unfoldable pub countAt : List ℕ → List Bool → ℕ → Got Head
-countAt s opened at = onward (numberAt s 32 at) (λ n next. value (record { opened = opened; count = n }) next)
+unfoldable pub countAt : List ℕ → ℕ → List Bool → ℕ → Got Head
+countAt s version opened at = onward (numberAt s 32 at) (λ n next. value (record { version = version; opened = opened; count = n }) next)
 
-unfoldable pub listsAt : List ℕ → ℕ → Got Head
-listsAt s at = onward (opensAt s at) (countAt s)
+unfoldable pub listsAt : List ℕ → ℕ → ℕ → Got Head
+listsAt s version at = onward (opensAt s at) (countAt s version)
 
 -- "version", which is 1
 unfoldable pub headAt : List ℕ → Got Head
-headAt s = onward (plainAt s 0) (λ version first. cond (eqb version 1) (listsAt s first) (refused unknown))
+headAt s = onward (plainAt s 0) (λ version first. cond (eqb version 1) (listsAt s version first) (refused unknown))

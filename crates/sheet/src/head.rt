@@ -59,8 +59,9 @@ fn opens_at(sheet: &[u8], at: usize) -> ReadOpens
     opens_run(sheet, count, first)
 }
 
-// What stands before the first task: the open phasers, and how many tasks there are.
+// What stands before the first task.
 pub struct Head {
+    pub version: u64,
     pub opened: [bool; 16],
     pub count: u64,
 }
@@ -74,30 +75,35 @@ fn no_head(place: Place) -> ReadHead
     ensures { λ r. ⌜ r .place ≡ place ⌝ }
 {
     let head = Head {
+        version: 0,
         opened: [false; 16],
         count: 0,
     };
     ReadHead { place, head }
 }
 
-// How many tasks, the open phasers being read.
-fn count_at(sheet: &[u8], opened: [bool; 16], at: usize) -> ReadHead
-    ensures { λ r. ⌜ placed (r .place) (r .head) ≡ countAt (now (sheet .entry)) opened at ⌝ }
+// How many tasks, version and open phasers being read.
+fn count_at(sheet: &[u8], version: u64, opened: [bool; 16], at: usize) -> ReadHead
+    ensures { λ r. ⌜ placed (r .place) (r .head) ≡ countAt (now (sheet .entry)) version opened at ⌝ }
 {
     let number = number::read(sheet, 32, at);
     let Number::Value(count, next) = number else {
         return no_head(after(number));
     };
-    let head = Head { opened, count };
+    let head = Head {
+        version,
+        opened,
+        count,
+    };
     ReadHead {
         place: Place::At(next),
         head,
     }
 }
 
-// The open phasers after the version, and how many tasks.
-fn lists_at(sheet: &[u8], at: usize) -> ReadHead
-    ensures { λ r. ⌜ placed (r .place) (r .head) ≡ listsAt (now (sheet .entry)) at ⌝ }
+// The open phasers, and how many tasks, the version being read.
+fn lists_at(sheet: &[u8], version: u64, at: usize) -> ReadHead
+    ensures { λ r. ⌜ placed (r .place) (r .head) ≡ listsAt (now (sheet .entry)) version at ⌝ }
 {
     let opens = opens_at(sheet, at);
     let place = opens.place;
@@ -105,7 +111,7 @@ fn lists_at(sheet: &[u8], at: usize) -> ReadHead
         return no_head(place);
     };
     let opened = opens.opened;
-    count_at(sheet, opened, next)
+    count_at(sheet, version, opened, next)
 }
 
 pub fn head_at(sheet: &[u8]) -> ReadHead
@@ -118,5 +124,5 @@ pub fn head_at(sheet: &[u8]) -> ReadHead
     if version != 1 {
         return no_head(Place::Refused(UNKNOWN));
     }
-    lists_at(sheet, first)
+    lists_at(sheet, version, first)
 }

@@ -37,7 +37,7 @@ no-head-requires-2 : tie.Need-no-head-requires-2
 no-head-requires-2 c κs = search needs
 
 -- a version was read, and it is 1; or it is not
-head-known : (s : List ℕ) (version first : ℕ) → plainAt s 0 ≡ value version first → version ≡ 1 → headAt s ≡ listsAt s first
+head-known : (s : List ℕ) (version first : ℕ) → plainAt s 0 ≡ value version first → version ≡ 1 → headAt s ≡ listsAt s version first
 unfolding headAt
 head-known s version first e one = rw (e, eq-eqb version 1 one)
 
