@@ -24,7 +24,7 @@ use Rattle.sets.proofs.Masks.{maskOf}
 use Rattle.judge.proofs.Twins.{rowsOf, namedIn, ringIn, roundIn, judgeOf, judgeOf-judged}
 use Rattle.sheet.specs.Got.{each}
 use Rattle.sheet.specs.Head.{openStep, opensAt, countAt, listsAt, headAt}
-use Rattle.sheet.specs.Entry.{phaseOn, eventAt, blockedAt, stateOn, countOn, entryOn, entryAt}
+use Rattle.sheet.specs.Entry.{phaseOn, eventAt, blockedAt, stateOn, countOn, entryOn, entryAt, membershipAt}
 use Rattle.sheet.specs.Reader.{memberStep, membersAt, taskStep, tasksAt, entriesAt, tableAt, sheetAt}
 use Rattle.sheet.specs.Number.{plainAt, numberAt, risingAt}
 use Rattle.sheet.proofs.Examples.{p4}
@@ -49,7 +49,7 @@ computed sheet a d route before after answer l m x =
 
 -- "Sheet of P4 .. Strip: `03 00 00 00 02 02 00 01`, then thirty `FF`"
 pub p4-strip : Leaves p4 (3 ∷ 0 ∷ 0 ∷ 0 ∷ 2 ∷ 2 ∷ 0 ∷ 1 ∷ replicate 30 255)
-unfolding stripOf judgeOf soundOf entriesSound statesSound every stateAt openAt memberAt phaseAt freshTable withState withEntry namedIn namedOf clear rowsOf places maskOf impedesOf eventOf roundIn ringIn ringOf nextsOf ringFrom stepOf goOf lowOf onceOf trailingZeros size sheetAt tableAt headAt listsAt countAt opensAt openStep each entriesAt tasksAt taskStep entryAt entryOn stateOn blockedAt eventAt phaseOn countOn membersAt memberStep plainAt numberAt risingAt
+unfolding stripOf judgeOf soundOf entriesSound statesSound every stateAt openAt memberAt phaseAt freshTable withState withEntry namedIn namedOf clear rowsOf places maskOf impedesOf eventOf roundIn ringIn ringOf nextsOf ringFrom stepOf goOf lowOf onceOf trailingZeros size sheetAt tableAt headAt listsAt countAt opensAt openStep each entriesAt tasksAt taskStep entryAt entryOn stateOn blockedAt eventAt phaseOn countOn membersAt memberStep membershipAt plainAt numberAt risingAt
 p4-strip = computed p4 refl refl
 
 -- "Nobody named: all zeros, then 255s"

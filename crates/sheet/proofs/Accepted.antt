@@ -18,11 +18,12 @@ use Rattle.hall.proofs.Places.{open-in, open-below}
 use Rattle.hall.proofs.Written.{put-at-here, put-at-other, state-reads, entry-reads}
 use Rattle.hall.proofs.Soundness.{awaitSound, getD-all}
 use Rattle.sheet.specs.declared.entry.Entry.{Entry}
+use Rattle.sheet.specs.declared.entry.Membership.{Membership}
 use Rattle.sheet.specs.declared.head.Head.{Head}
 use Rattle.sheet.specs.Number.{numberBytes}
 use Rattle.sheet.specs.Got.{Rising, rising, each}
 use Rattle.sheet.specs.Head.{openStep, opensAt, countAt, listsAt, headAt}
-use Rattle.sheet.specs.Entry.{phaseOn, eventAt, blockedAt, stateOn, entryOf, countOn, entryOn, entryAt}
+use Rattle.sheet.specs.Entry.{phaseOn, eventAt, blockedAt, stateOn, entryOf, countOn, entryOn, entryAt, membershipOf, membershipAt}
 use Rattle.sheet.specs.Reader.{memberStep, membersAt, taskStep, tasksAt, entriesAt, tableAt}
 use Rattle.sheet.specs.Written.{listed, stateBytes, memberBytes, taskBytes, liveAt, sheetOf}
 use Rattle.sheet.proofs.Same.{Ok, fine, none, same-onward, same-times, same-if}
@@ -32,13 +33,13 @@ use Rattle.sheet.proofs.Tables.{absent, Grown, grown-start, grown-more,
 
 module _ (s : List ℕ) (eight : Bytes s) where
   -- ---- a task's entry, where the phasers of t are open
-  record EventRead (t : Table) (floor at : ℕ) (e : Event) (next : ℕ) : Type 0 where
-    pub least : floor ≤ e .phaser .0
-    pub opens : openAt t (e .phaser .0) ≡ true
-    pub most : e .phase .0 ≤ largestPhase
-    pub bytes : take next s ≡ take at s ++ (numberBytes (e .phaser .0) ++ numberBytes (e .phase .0))
+  record PhaseRead (t : Table) (floor at p n next : ℕ) : Type 0 where
+    pub least : floor ≤ p
+    pub opens : openAt t p ≡ true
+    pub most : n ≤ largestPhase
+    pub bytes : take next s ≡ take at s ++ (numberBytes p ++ numberBytes n)
 
-  event-ok : (t : Table) (floor at : ℕ) → Ok (EventRead t floor at) (eventAt s (t .opened) floor at)
+  event-ok : (t : Table) (floor at : ℕ) → Ok (λ (e : Event). PhaseRead t floor at (e .phaser .0) (e .phase .0)) (eventAt s (t .opened) floor at)
   unfolding eventAt phaseOn
   event-ok t floor at =
       same-onward (rising-ok s eight 15 floor at) (λ p second e.
@@ -50,6 +51,11 @@ module _ (s : List ℕ) (eight : Bytes s) where
         bytes = f .bytes ∙ rw (e .bytes, append-assoc);
       })))
       (λ o. none tt))
+
+  membership-ok : (t : Table) (floor at : ℕ) →
+      Ok (λ (m : Membership). PhaseRead t floor at (m .phaser .0) (m .phase .0)) (membershipAt s (t .opened) floor at)
+  unfolding membershipAt
+  membership-ok t floor at = same-onward (event-ok t floor at) (λ e next r. fine {a = membershipOf e} r)
 
   record StateRead (t : Table) (at : ℕ) (x : State) (next : ℕ) : Type 0 where
     pub alive : isLive x ≡ true
@@ -98,7 +104,7 @@ module _ (s : List ℕ) (eight : Bytes s) where
     member-ok : (w : List ℕ) (n left : ℕ) (r : Rising Table) (at : ℕ) → Joining w n (suc left) r at → Ok (Joining w n left) (memberStep s (t .opened) k r at)
     unfolding memberStep
     member-ok w n left r at j =
-        same-onward (event-ok t (r .floor) at) (λ e next v.
+        same-onward (membership-ok t (r .floor) at) (λ e next v.
         let p = e .phaser .0 in
         let m = e .phase .0 in
         let u = r .sofar in

@@ -11,7 +11,7 @@ use Rattle.hall.specs.declared.table.Table.{Table}
 use Rattle.sheet.specs.Got.{refused, each}
 use Rattle.sheet.specs.Number.{plainAt, numberAt, risingAt, numberBytes}
 use Rattle.sheet.specs.Head.{openStep, opensAt, countAt, listsAt, headAt}
-use Rattle.sheet.specs.Entry.{phaseOn, eventAt, blockedAt, stateOn, countOn, entryOn, entryAt}
+use Rattle.sheet.specs.Entry.{phaseOn, eventAt, blockedAt, stateOn, countOn, entryOn, entryAt, membershipAt}
 use Rattle.sheet.specs.Reader.{memberStep, membersAt, taskStep, tasksAt, entriesAt, tableAt, sheetAt}
 use Rattle.sheet.specs.Written.{listed, sheetOf}
 use Rattle.sheet.proofs.Fewest.{fewest}
@@ -44,5 +44,5 @@ SaysP4 t =
     (memberAt t 0 0 ≡ true) × (memberAt t 1 0 ≡ true) × (memberAt t 0 1 ≡ true) × (memberAt t 1 1 ≡ true) × (stateAt t 0 ≡ Blocked (event 0 1)) × (stateAt t 1 ≡ Blocked (event 1 1)) × (phaseAt t 0 0 ≡ 1) × (phaseAt t 1 0 ≡ 0) × (phaseAt t 0 1 ≡ 0) × (phaseAt t 1 1 ≡ 1)
 
 pub p4-read : (sheetAt p4 .answer ≡ 0) × SaysP4 (sheetAt p4 .table) × (sheetOf (sheetAt p4 .table) ≡ p4)
-unfolding sheetAt tableAt headAt listsAt countAt opensAt openStep each entriesAt tasksAt taskStep entryAt entryOn stateOn blockedAt eventAt phaseOn countOn membersAt memberStep plainAt numberAt risingAt withState withEntry sheetOf listed numberBytes openAt stateAt memberAt phaseAt
+unfolding sheetAt tableAt headAt listsAt countAt opensAt openStep each entriesAt tasksAt taskStep entryAt entryOn stateOn blockedAt eventAt phaseOn countOn membersAt memberStep membershipAt plainAt numberAt risingAt withState withEntry sheetOf listed numberBytes openAt stateAt memberAt phaseAt
 p4-read = (refl, (refl, refl, refl, refl, refl, refl, refl, refl, refl, refl), refl)

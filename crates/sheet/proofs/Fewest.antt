@@ -16,7 +16,7 @@ use Rattle.sheet.specs.Answers.{endsInside, needlessGroup, tooLarge, not
 use Rattle.sheet.specs.Got.{Got, Rising, rising, each}
 use Rattle.sheet.specs.Number.{further, groupsAt, plainAt, numberAt, risingAt}
 use Rattle.sheet.specs.Head.{openStep, opensAt, countAt, listsAt, headAt}
-use Rattle.sheet.specs.Entry.{phaseOn, eventAt, blockedAt, stateOn, countOn, entryOn, entryAt}
+use Rattle.sheet.specs.Entry.{phaseOn, eventAt, blockedAt, stateOn, countOn, entryOn, entryAt, membershipAt}
 use Rattle.sheet.specs.Reader.{memberStep, membersAt, taskStep, noTasks, tasksAt, entriesAt, tableAt}
 use Rattle.sheet.proofs.Same.{Agree, fine, none, same-onward, same-times, same-if}
 
@@ -69,6 +69,10 @@ module _ (s : List ℕ) where
       (λ o. same-onward (number largestPhase second (omega (arith, e .0))) (λ v next f. fine (omega (arith, e .0, f .0))))
       (λ o. none {n = notOpen} (omega (arith, e .0, e .1))))
 
+  membership : (opened : List Bool) (floor at : ℕ) → 5 ≤ at → Enough (Past 5) (membershipAt s opened floor at)
+  unfolding membershipAt
+  membership opened floor at h = same-onward (event opened floor at h) (λ e next f. fine f)
+
   state : (opened : List Bool) (at : ℕ) → 4 ≤ at → Enough (Past 5) (stateOn s opened at)
   unfolding stateOn blockedAt
   state opened at h =
@@ -92,7 +96,7 @@ module _ (s : List ℕ) where
       same-onward {P = Past 5}
       (same-onward
       (same-times (λ j. Past 5) (memberStep s opened k) (memberStep s opened k)
-      (λ j r mid l. same-onward (event opened (r .floor) mid l) (λ v next f. fine f))
+      (λ j r mid l. same-onward (membership opened (r .floor) mid l) (λ m next f. fine f))
       (e .count) (rising 0 (withState t k (e .state))) at h)
       (λ r next l. fine l))
       (λ u next l. fine (omega arith))

@@ -16,7 +16,7 @@ use Rattle.sheet.specs.declared.head.Head.{Head}
 use Rattle.sheet.specs.Got.{value, rising, each}
 use Rattle.sheet.specs.Number.{further, groupsAt, plainAt, numberAt, risingAt}
 use Rattle.sheet.specs.Head.{openStep, opensAt, countAt, listsAt, headAt}
-use Rattle.sheet.specs.Entry.{phaseOn, eventAt, blockedAt, stateOn, entryOf, countOn, entryOn, entryAt}
+use Rattle.sheet.specs.Entry.{phaseOn, eventAt, blockedAt, stateOn, entryOf, countOn, entryOn, entryAt, membershipAt}
 use Rattle.sheet.specs.Reader.{memberStep, membersAt, taskStep, noTasks, tasksAt, entriesAt, tableAt}
 use Rattle.sheet.proofs.Same.{Same, fine, none, same-onward, same-times, same-if, same-equal, same-holds}
 use Rattle.sheet.proofs.Numbers.{Bytes, anyNumber, Read, plain-ok, number-ok, rising-ok, one-byte}
@@ -76,6 +76,11 @@ module _ (s s' : List ℕ) (eight : Bytes s) (n : ℕ) (same : (i : ℕ) → i <
       (λ o. same-onward (number largestPhase second (omega arith)) (λ v next f. fine (omega (arith, f .place, f .short))))
       (λ o. none tt))
 
+  membership : (c : ℕ) (opened : List Bool) (floor at : ℕ) → at + (longestEvent + c) ≤ n →
+      Same (Left c) (membershipAt s opened floor at) (membershipAt s' opened floor at)
+  unfolding membershipAt
+  membership c opened floor at h = same-onward (event c opened floor at h) (λ e next l. fine l)
+
   state : (c : ℕ) (opened : List Bool) (at : ℕ) → at + (1 + longestEvent + c) ≤ n → Same (Left c) (stateOn s opened at) (stateOn s' opened at)
   unfolding stateOn blockedAt
   state c opened at h =
@@ -102,7 +107,7 @@ module _ (s s' : List ℕ) (eight : Bytes s) (n : ℕ) (same : (i : ℕ) → i <
       same-onward {P = Left c}
       (same-onward
       (same-times (λ j. Left (j * longestEvent + c)) (memberStep s opened k) (memberStep s' opened k)
-      (λ j r mid l. same-onward (event (j * longestEvent + c) opened (r .floor) mid (omega arith)) (λ v next f. fine f))
+      (λ j r mid l. same-onward (membership (j * longestEvent + c) opened (r .floor) mid (omega arith)) (λ m next f. fine f))
       (e .count) (rising 0 (withState t k (e .state))) at h)
       (λ r next l. fine (omega arith)))
       (λ u next l. fine l)

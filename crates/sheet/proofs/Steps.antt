@@ -7,9 +7,9 @@ use native.Mathlib.Omega.{arith}
 use lib.Dec.{ltb}
 use lib.ListN.{set, length}
 use Rattle.hall.specs.Effects.{withState, withEntry}
-use Rattle.hall.specs.declared.table.Event.{Event}
 use Rattle.hall.specs.declared.table.Table.{Table}
 use Rattle.sheet.specs.declared.entry.Entry.{Entry}
+use Rattle.sheet.specs.declared.entry.Membership.{Membership}
 use Rattle.sheet.specs.declared.head.Head.{Head}
 use Rattle.sheet.specs.declared.place.Place.{Place}
 use Rattle.sheet.specs.declared.place.Place.the-variants.{At, Refused}
@@ -18,7 +18,7 @@ use Rattle.sheet.specs.Got.{Got, value, refused, onward, Rising, rising,
 use Rattle.sheet.specs.Parts.{placed, remainingOf, endedOf}
 use Rattle.sheet.specs.Number.{risingAt}
 use Rattle.sheet.specs.Head.{openStep}
-use Rattle.sheet.specs.Entry.{eventAt, entryAt}
+use Rattle.sheet.specs.Entry.{entryAt, membershipAt}
 use Rattle.sheet.specs.Reader.{memberStep, membersAt, taskStep, noTasks, tasksAt, endedAt, entriesAt}
 use Rattle.sheet.proofs.Onward.{going, gone, gone-start, gone-end}
 
@@ -38,10 +38,11 @@ made (Refused n) a f = refl
 
 -- ---- the steps of the loops over tasks and memberships, from what their parts were read to
 module _ (s : List ℕ) (opened : List Bool) (floor at : ℕ) (t : Table) (place : Place) where
-  pub member-made : (k : ℕ) (e : Event) → placed place e ≡ eventAt s opened floor at →
-      memberStep s opened k (rising floor t) at ≡ placed place (rising (e .phaser .0 + 1) (withEntry t k (e .phaser .0) true (e .phase .0)))
+  pub member-made : (k : ℕ) (m : Membership) → placed place m ≡ membershipAt s opened floor at →
+      memberStep s opened k (rising floor t) at ≡ placed place (rising (m .phaser .0 + 1) (withEntry t k (m .phaser .0) true (m .phase .0)))
   unfolding memberStep
-  member-made k e h = rw (← h) (sym (made place e (λ (e : Event). rising (e .phaser .0 + 1) (withEntry t k (e .phaser .0) true (e .phase .0)))))
+  member-made k m h =
+      rw (← h) (sym (made place m (λ (m : Membership). rising (m .phaser .0 + 1) (withEntry t k (m .phaser .0) true (m .phase .0)))))
 
   -- `end` and `u` are where the memberships end and the table with them
   pub task-made : (e : Entry) (end : Place) (u : Table) → placed place e ≡ entryAt s opened floor at →

@@ -19,7 +19,7 @@ use Rattle.hall.proofs.Soundness.{getD-all}
 use Rattle.sheet.specs.Got.{Got, value, refused, onward, times, Rising, rising, each}
 use Rattle.sheet.specs.Number.{numberAt, numberBytes}
 use Rattle.sheet.specs.Head.{openStep, opensAt, countAt, listsAt, headAt}
-use Rattle.sheet.specs.Entry.{phaseOn, eventAt, blockedAt, stateOn, countOn, entryOn, entryAt}
+use Rattle.sheet.specs.Entry.{phaseOn, eventAt, blockedAt, stateOn, countOn, entryOn, entryAt, membershipAt}
 use Rattle.sheet.specs.Reader.{memberStep, membersAt, taskStep, noTasks, tasksAt, entriesAt, tableAt}
 use Rattle.sheet.specs.Written.{count, gather, listed, stateBytes, memberBytes, taskBytes, liveAt, sheetOf}
 use Rattle.sheet.proofs.Numbers.{anyNumber, read-plain, read-number, read-rising}
@@ -180,7 +180,7 @@ module _ (t : Table) (h : Sound t) (sh : Shaped t) (s : List ℕ) where
 
     read-member : (p at floor : ℕ) (rest : List ℕ) → p < 16 → memberAt t k p ≡ true → floor ≤ p → drop at s ≡ memberBytes t k p ++ rest →
         memberStep s (t .opened) k (rising floor (upTo (suc k) k p)) at ≡ value (rising (p + 1) (upTo (suc k) k (suc p))) (at + length (memberBytes t k p))
-    unfolding memberStep
+    unfolding memberStep membershipAt
     read-member p at floor rest l m f e =
         rw (read-event p (phaseAt t k p) floor at rest (h .open-member k p m) (h .kept k p) f e, joined p l m)
 

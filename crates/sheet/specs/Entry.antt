@@ -9,11 +9,12 @@ use Rattle.hall.specs.declared.table.Event.{Event}
 use Rattle.hall.specs.declared.table.State.{State}
 use Rattle.hall.specs.declared.table.State.the-variants.{Running, Blocked}
 use Rattle.sheet.specs.declared.entry.Entry.{Entry}
+use Rattle.sheet.specs.declared.entry.Membership.{Membership}
 use Rattle.sheet.specs.Answers.{unknown, notOpen}
 use Rattle.sheet.specs.Got.{Got, value, refused, onward}
 use Rattle.sheet.specs.Number.{plainAt, numberAt, risingAt}
 
--- "phaser and phase", the phaser open
+-- "the phaser and phase", the phaser open
 unfoldable pub phaseOn : List ℕ → ℕ → ℕ → Got Event
 phaseOn s p at = onward (numberAt s largestPhase at) (λ n next. value (event p n) next)
 
@@ -42,3 +43,10 @@ entryOn s opened k at = onward (stateOn s opened at) (countOn s k)
 
 unfoldable pub entryAt : List ℕ → List Bool → ℕ → ℕ → Got Entry
 entryAt s opened floor at = onward (risingAt s 31 floor at) (entryOn s opened)
+
+-- "and each as phaser and phase"
+abbrev pub membershipOf : Event → Membership
+membershipOf e = record { phaser = e .phaser; phase = e .phase }
+
+unfoldable pub membershipAt : List ℕ → List Bool → ℕ → ℕ → Got Membership
+membershipAt s opened floor at = onward (eventAt s opened floor at) (λ e next. value (membershipOf e) next)

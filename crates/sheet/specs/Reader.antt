@@ -10,19 +10,21 @@ use Rattle.hall.specs.declared.table.Table.{Table}
 use Rattle.sheet.specs.declared.entry.Entry.{Entry}
 use Rattle.sheet.specs.declared.head.Head.{Head}
 use Rattle.sheet.specs.Answers.{bytesAfter}
-use Rattle.sheet.specs.Entry.{eventAt, entryAt}
+use Rattle.sheet.specs.Entry.{entryAt, membershipAt}
 use Rattle.sheet.specs.Got.{Got, value, refused, onward, Rising, rising, each}
 use Rattle.sheet.specs.Head.{headAt}
 
--- "and each as phaser and phase, rising by phaser"
+-- "each .., rising by phaser"
 unfoldable pub memberStep : List ℕ → List Bool → ℕ → Rising Table → ℕ → Got (Rising Table)
 memberStep s opened k r at =
-    onward (eventAt s opened (r .floor) at) (λ e next. value (rising (e .phaser .0 + 1) (withEntry (r .sofar) k (e .phaser .0) true (e .phase .0))) next)
+    onward (membershipAt s opened (r .floor) at) (λ m next.
+    value (rising (m .phaser .0 + 1) (withEntry (r .sofar) k (m .phaser .0) true (m .phase .0))) next)
 
 -- "each task, rising by number": its state, and its memberships
 unfoldable pub membersAt : List ℕ → List Bool → Table → Entry → ℕ → Got (Rising Table)
 membersAt s opened t e at =
-    onward (each (memberStep s opened (e .number .0)) (e .count) (withState t (e .number .0) (e .state)) at) (λ u next. value (rising (e .number .0 + 1) u) next)
+    onward (each (memberStep s opened (e .number .0)) (e .count) (withState t (e .number .0) (e .state)) at) (λ u next.
+    value (rising (e .number .0 + 1) u) next)
 
 unfoldable pub taskStep : List ℕ → List Bool → Rising Table → ℕ → Got (Rising Table)
 taskStep s opened r at = onward (entryAt s opened (r .floor) at) (membersAt s opened (r .sofar))

@@ -2,7 +2,7 @@
 ghost use mathlib.Core.Path.{_≡_};
 ghost use Prim.Native.Nat.{_≤_};
 ghost use Rattle.sheet.specs.Parts.{placed};
-ghost use Rattle.sheet.specs.Entry.{phaseOn, eventAt, blockedAt, stateOn, countOn, entryOn, entryAt};
+ghost use Rattle.sheet.specs.Entry.{phaseOn, eventAt, blockedAt, stateOn, countOn, entryOn, entryAt, membershipAt};
 use crate::answers::NOT_OPEN;
 use crate::answers::UNKNOWN;
 use crate::number;
@@ -50,7 +50,7 @@ fn phase_on(sheet: &[u8], phaser: PhaserNo, at: usize) -> ReadEvent
     }
 }
 
-pub fn event_at(sheet: &[u8], opened: &[bool; 16], floor: u64, at: usize) -> ReadEvent
+fn event_at(sheet: &[u8], opened: &[bool; 16], floor: u64, at: usize) -> ReadEvent
     ensures { λ r. ⌜ (placed (r .place) (r .event) ≡ eventAt (now (sheet .entry)) (now (opened .entry)) floor at) × (r .event .phaser .0 ≤ 15) ⌝ }
 {
     let number = number::rising(sheet, 15, floor, at);
@@ -172,4 +172,28 @@ pub fn entry_at(sheet: &[u8], opened: &[bool; 16], floor: u64, at: usize) -> Rea
         return no_entry(after(number));
     };
     entry_on(sheet, opened, TaskNo(task), next)
+}
+
+pub struct Membership {
+    pub phaser: PhaserNo,
+    pub phase: Phase,
+}
+
+pub struct ReadMembership {
+    pub place: Place,
+    pub membership: Membership,
+}
+
+pub fn membership_at(sheet: &[u8], opened: &[bool; 16], floor: u64, at: usize) -> ReadMembership
+    ensures { λ r. ⌜
+        (placed (r .place) (r .membership) ≡ membershipAt (now (sheet .entry)) (now (opened .entry)) floor at)
+        × (r .membership .phaser .0 ≤ 15) ⌝ }
+{
+    let read = event_at(sheet, opened, floor, at);
+    let place = read.place;
+    let event = read.event;
+    let phaser = event.phaser;
+    let phase = event.phase;
+    let membership = Membership { phaser, phase };
+    ReadMembership { place, membership }
 }

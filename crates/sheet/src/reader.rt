@@ -4,7 +4,7 @@ ghost use Rattle.sheet.specs.Got.{onward};
 ghost use Rattle.sheet.specs.Parts.{placed};
 ghost use Rattle.sheet.specs.Reader.{noTasks, entriesAt, hands, handed, sheetAt};
 use crate::entry::entry_at;
-use crate::entry::event_at;
+use crate::entry::membership_at;
 use crate::head::ReadHead;
 use crate::head::head_at;
 use crate::place::Place;
@@ -52,10 +52,10 @@ fn entries(sheet: &[u8], read: ReadHead, answer: &mut u32) -> Table
         let mut least: u64 = 0;
         let mut members = remaining(place, entry.count);
         while 0 < members {
-            let joined = event_at(sheet, &opened, least, next(place));
-            let event = joined.event;
-            let phaser = event.phaser.0;
-            let phase = event.phase;
+            let joined = membership_at(sheet, &opened, least, next(place));
+            let membership = joined.membership;
+            let phaser = membership.phaser.0;
+            let phase = membership.phase;
             let i = k * 16 + phaser as usize;
             table.phases[i] = phase;
             table.members[i] = true;

@@ -70,26 +70,26 @@ loop2-holds c =
 next-requires-2 : tie.Need-next-requires-2 Inv-loop2 μ-loop2 Inv-loop μ-loop Inv-loop3 μ-loop3
 next-requires-2 c κs = search needs
 
-event-at-requires : tie.Need-event-at-requires Inv-loop2 μ-loop2 Inv-loop μ-loop Inv-loop3 μ-loop3
-event-at-requires c κs = search needs
+membership-at-requires : tie.Need-membership-at-requires Inv-loop2 μ-loop2 Inv-loop μ-loop Inv-loop3 μ-loop3
+membership-at-requires c κs = search needs
 
 mul-i : tie.Need-mul-i Inv-loop2 μ-loop2 Inv-loop μ-loop Inv-loop3 μ-loop3
-mul-i c = record { fits = omega (arith, c .before .before .event-at .ensures .1, c .before .before .before .before .before .before .before .before .before .entry-at .ensures .1) }
+mul-i c = record { fits = omega (arith, c .before .before .membership-at .ensures .1, c .before .before .before .before .before .before .before .before .before .entry-at .ensures .1) }
 
 add-i : tie.Need-add-i Inv-loop2 μ-loop2 Inv-loop μ-loop Inv-loop3 μ-loop3
-add-i c = record { fits = omega (arith, c .before .before .event-at .ensures .1, c .before .before .before .before .before .before .before .before .before .entry-at .ensures .1) }
+add-i c = record { fits = omega (arith, c .before .before .membership-at .ensures .1, c .before .before .before .before .before .before .before .before .before .entry-at .ensures .1) }
 
 mul-phase : tie.Need-mul-phase Inv-loop2 μ-loop2 Inv-loop μ-loop Inv-loop3 μ-loop3
-mul-phase c = record { fits = omega (arith, c .before .before .event-at .ensures .1, c .before .before .before .before .before .before .before .before .before .entry-at .ensures .1) }
+mul-phase c = record { fits = omega (arith, c .before .before .membership-at .ensures .1, c .before .before .before .before .before .before .before .before .before .entry-at .ensures .1) }
 
 element-set-from-phase : tie.Need-element-set-from-phase Inv-loop2 μ-loop2 Inv-loop μ-loop Inv-loop3 μ-loop3
-element-set-from-phase c = omega (arith, c .before .before .event-at .ensures .1, c .before .before .before .before .before .before .before .before .before .entry-at .ensures .1)
+element-set-from-phase c = omega (arith, c .before .before .membership-at .ensures .1, c .before .before .before .before .before .before .before .before .before .entry-at .ensures .1)
 
 element-write-table : tie.Need-element-write-table Inv-loop2 μ-loop2 Inv-loop μ-loop Inv-loop3 μ-loop3
-element-write-table c = omega (arith, c .before .before .event-at .ensures .1, c .before .before .before .before .before .before .before .before .before .entry-at .ensures .1)
+element-write-table c = omega (arith, c .before .before .membership-at .ensures .1, c .before .before .before .before .before .before .before .before .before .entry-at .ensures .1)
 
 add-least : tie.Need-add-least Inv-loop2 μ-loop2 Inv-loop μ-loop Inv-loop3 μ-loop3
-add-least c = record { fits = omega (arith, c .before .before .event-at .ensures .1) }
+add-least c = record { fits = omega (arith, c .before .before .membership-at .ensures .1) }
 
 sub-remaining : tie.Need-sub-remaining Inv-loop2 μ-loop2 Inv-loop μ-loop Inv-loop3 μ-loop3
 sub-remaining c = search needs
@@ -98,16 +98,16 @@ remaining-requires-3 : tie.Need-remaining-requires-3 Inv-loop2 μ-loop2 Inv-loop
 remaining-requires-3 c κs = search needs
 
 loop2-less : tie.Need-loop2-less Inv-loop2 μ-loop2 Inv-loop μ-loop Inv-loop3 μ-loop3
-loop2-less c = remaining-less (c .before .before .before .event-at .result .place) (c .before .before .before .before .before .before .before .loop2 .members) _ (c .before .before .before .before .before .before .loop2-test .taken) (c .remaining3 .ensures)
+loop2-less c = remaining-less (c .before .before .before .membership-at .result .place) (c .before .before .before .before .before .before .before .loop2 .members) _ (c .before .before .before .before .before .before .loop2-test .taken) (c .remaining3 .ensures)
 
 loop2-again : tie.Need-loop2-again Inv-loop2 μ-loop2 Inv-loop μ-loop Inv-loop3 μ-loop3
 unfolding withEntry
 loop2-again c =
     let at = c .before .before .before .before .before .before in
     let loop = at .before .loop2 in
-    let event = c .before .before .before .event-at in
-    let place = event .result .place in
-    let step = ap (memberStep _ _ _ (rising (loop .least) (loop .table))) (sym (c .before .before .before .before .next2 .ensures)) ∙ member-made _ _ (loop .least) _ (loop .table) place _ (event .result .event) (event .ensures .0) in (
+    let read = c .before .before .before .membership-at in
+    let place = read .result .place in
+    let step = ap (memberStep _ _ _ (rising (loop .least) (loop .table))) (sym (c .before .before .before .before .next2 .ensures)) ∙ member-made _ _ (loop .least) _ (loop .table) place _ (read .result .membership) (read .ensures .0) in (
       rw (c .remaining3 .ensures) (gone-turn (memberStep _ _ _) (loop .place) place (loop .members) (loop .least) _ _ (loop .table) _ (at .loop2-test .taken) (loop .inv .1) step (λ _ _. refl)) ∙ loop .inv .0,
       remaining-settled place _ (loop .members - 1) (c .remaining3 .ensures),
       loop .inv .2,
@@ -206,7 +206,7 @@ entries-spec =
     remaining-requires-2
     loop2-holds
     next-requires-2
-    event-at-requires
+    membership-at-requires
     mul-i
     add-i
     mul-phase
