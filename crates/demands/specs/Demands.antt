@@ -22,6 +22,7 @@ use Rattle.text.specs.Text.{textWith}
 use Rattle.text.specs.Verdict.{verdictText}
 use Rattle.text.specs.declared.text.Text.{Text}
 use Rattle.sheet.specs.Answers.{sheetAnswers}
+use Rattle.sheet.specs.Figures.{longestSheet, settlingBytes}
 use Rattle.sheet.specs.Reader.{hands, sheetAt}
 use Rattle.sheet.specs.Written.{sheetOf}
 use Rattle.mollavisce.specs.Entry.{shortStrip, entryAnswers, SheetJudged, Entered}
@@ -80,8 +81,8 @@ pub record SheetRead (sheet : List ℕ) (answer : ℕ) (t : Table) : Type 0 wher
   -- "A sheet reader that refuses hands back a fresh table." (document 01)
   pub fresh : (answer ≡ done → ⊥) → t ≡ freshTable
   -- "The longest sheet has 2,291 bytes. So reading 2,292 settles any input." (document 01)
-  pub longest : answer ≡ done → length sheet ≤ 2291
-  pub settled : hands answer t ≡ sheetAt (take 2292 sheet)
+  pub longest : answer ≡ done → length sheet ≤ longestSheet
+  pub settled : hands answer t ≡ sheetAt (take settlingBytes sheet)
 
 -- ---- 2. "A task is named stuck exactly when it belongs to some totally deadlocked set, as source document 000 defines that for phasers."
 -- a table, and a verdict on it with answer 0

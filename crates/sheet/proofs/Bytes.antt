@@ -10,7 +10,8 @@ use Rattle.hall.specs.Table.{openAt, stateAt, memberAt}
 use Rattle.hall.specs.declared.table.State.{State}
 use Rattle.hall.specs.declared.table.State.the-variants.{Free, Running, Blocked}
 use Rattle.hall.specs.declared.table.Table.{Table}
-use Rattle.sheet.specs.Number.{further, groupsOf, numberBytes}
+use Rattle.sheet.specs.Figures.{further}
+use Rattle.sheet.specs.Number.{groupsOf, numberBytes}
 use Rattle.sheet.specs.Written.{count, gather, listed, stateBytes, memberBytes, taskBytes, liveAt, sheetOf}
 use Rattle.sheet.proofs.Numbers.{Bytes}
 

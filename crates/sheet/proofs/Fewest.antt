@@ -14,7 +14,8 @@ use Rattle.sheet.specs.declared.entry.Entry.{Entry}
 use Rattle.sheet.specs.declared.head.Head.{Head}
 use Rattle.sheet.specs.Answers.{endsInside, needlessGroup, tooLarge, notRising, unknown, bytesAfter, notOpen}
 use Rattle.sheet.specs.Got.{Got, Rising, rising, each}
-use Rattle.sheet.specs.Number.{further, groupsAt, plainAt, numberAt, risingAt}
+use Rattle.sheet.specs.Figures.{further}
+use Rattle.sheet.specs.Number.{groupsAt, plainAt, numberAt, risingAt}
 use Rattle.sheet.specs.Head.{openStep, opensAt, countAt, listsAt, headAt}
 use Rattle.sheet.specs.Entry.{phaseOn, eventAt, blockedAt, stateOn, countOn, entryOn, entryAt, membershipAt}
 use Rattle.sheet.specs.Reader.{memberStep, membersAt, taskStep, noTasks, tasksAt, entriesAt, tableAt}

@@ -15,6 +15,7 @@ use Rattle.hall.specs.declared.table.Task.{Task}
 use Rattle.hall.proofs.Lists.{every-all}
 use Rattle.hall.proofs.Places.{state-in, open-in, member-in, phase-in}
 use Rattle.hall.proofs.Soundness.{sound-iff}
+use Rattle.sheet.specs.Figures.{longestSheet}
 use Rattle.sheet.specs.Number.{numberBytes}
 use Rattle.sheet.specs.Written.{count, gather, listed, stateBytes, memberBytes, taskBytes, liveAt, sheetOf}
 use Rattle.sheet.proofs.Numbers.{one-byte}
@@ -106,7 +107,7 @@ sound-test = simp (every-all entries 512 entry, every-all states 32 state)
 pub full-sound : Sound fullTable
 full-sound = sound-iff fullTable .0 sound-test
 
--- ---- and has 2,291 bytes
+-- ---- and has as many bytes as any
 three : length (numberBytes largestPhase) ≡ 3
 unfolding numberBytes
 three = refl
@@ -138,7 +139,7 @@ task-long k h =
       all-listed (memberAt fullTable k) (memberBytes fullTable k) 4 16 (omega arith) (λ p l. full-member k p h l) (λ p l. member-long k p h l),
     )
 
-pub full-long : length (sheetOf fullTable) ≡ 2291
+pub full-long : length (sheetOf fullTable) ≡ longestSheet
 unfolding sheetOf
 full-long =
     let phasers = listed (openAt fullTable) numberBytes 16 in

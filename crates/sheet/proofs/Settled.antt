@@ -14,22 +14,20 @@ use Rattle.hall.specs.declared.table.Table.{Table}
 use Rattle.sheet.specs.declared.entry.Entry.{Entry}
 use Rattle.sheet.specs.declared.head.Head.{Head}
 use Rattle.sheet.specs.Got.{value, rising, each}
-use Rattle.sheet.specs.Number.{further, groupsAt, plainAt, numberAt, risingAt}
+use Rattle.sheet.specs.Figures.{longestSheet, settlingBytes, further}
+use Rattle.sheet.specs.Number.{groupsAt, plainAt, numberAt, risingAt}
 use Rattle.sheet.specs.Head.{openStep, opensAt, countAt, listsAt, headAt}
 use Rattle.sheet.specs.Entry.{phaseOn, eventAt, blockedAt, stateOn, entryOf, countOn, entryOn, entryAt, membershipAt}
 use Rattle.sheet.specs.Reader.{memberStep, membersAt, taskStep, noTasks, tasksAt, entriesAt, tableAt}
 use Rattle.sheet.proofs.Same.{Same, fine, none, same-onward, same-times, same-if, same-equal, same-holds}
 use Rattle.sheet.proofs.Numbers.{Bytes, anyNumber, Read, plain-ok, number-ok, rising-ok, one-byte}
 
--- the longest: phaser and phase; number, state, event, how many memberships and each; version, open phasers, how many tasks and each
+-- the longest: phaser and phase; number, state, event, how many memberships and each
 abbrev longestEvent : ℕ
 longestEvent = 2 + further
 
 abbrev longestEntry : ℕ
 longestEntry = 3 + longestEvent + 16 * longestEvent
-
-abbrev pub longestSheet : ℕ
-longestSheet = 19 + 32 * longestEntry
 
 -- two sheets with the same first n bytes
 module _ (s s' : List ℕ) (eight : Bytes s) (n : ℕ) (same : (i : ℕ) → i < n → getD s i 0 ≡ getD s' i 0)
@@ -159,13 +157,13 @@ module _ (s s' : List ℕ) (eight : Bytes s) (n : ℕ) (same : (i : ℕ) → i <
 pub longest : (s : List ℕ) → Bytes s → {t : Table} {at : ℕ} → tableAt s ≡ value t at → length s ≤ longestSheet
 longest s b e = let w = same-holds (table s s b (suc longestSheet) (λ i h. refl) (λ i h. refl) (omega arith)) e in omega arith
 
-pub settles : (s : List ℕ) → Bytes s → tableAt s ≡ tableAt (take (suc longestSheet) s)
+pub settles : (s : List ℕ) → Bytes s → tableAt s ≡ tableAt (take settlingBytes s)
 settles s b =
-    same-equal (table s (take (suc longestSheet) s) b (suc longestSheet) (λ i h. sym (getD-take (suc longestSheet) s i 0 h)) ends (omega arith))
+    same-equal (table s (take settlingBytes s) b settlingBytes (λ i h. sym (getD-take settlingBytes s i 0 h)) ends (omega arith))
   where
-    ends : (i : ℕ) → i < suc longestSheet → leb (length s) i ≡ leb (length (take (suc longestSheet) s)) i
+    ends : (i : ℕ) → i < settlingBytes → leb (length s) i ≡ leb (length (take settlingBytes s)) i
     ends i h = go (leb (length s) i) refl
       where
-        go : (b : Bool) → leb (length s) i ≡ b → leb (length s) i ≡ leb (length (take (suc longestSheet) s)) i
-        go true e = e ∙ sym (le-leb (length (take (suc longestSheet) s)) i (omega (arith, length-take (suc longestSheet) s, leb-true (length s) i e)))
-        go false e = e ∙ sym (lt-leb (length (take (suc longestSheet) s)) i (omega (arith, length-take (suc longestSheet) s, leb-false (length s) i e)))
+        go : (b : Bool) → leb (length s) i ≡ b → leb (length s) i ≡ leb (length (take settlingBytes s)) i
+        go true e = e ∙ sym (le-leb (length (take settlingBytes s)) i (omega (arith, length-take settlingBytes s, leb-true (length s) i e)))
+        go false e = e ∙ sym (lt-leb (length (take settlingBytes s)) i (omega (arith, length-take settlingBytes s, leb-false (length s) i e)))

@@ -14,6 +14,7 @@ use Rattle.hall.specs.declared.table.Table.{Table}
 use Rattle.sheet.specs.declared.number.Number.{Number}
 use Rattle.sheet.specs.declared.number.Number.the-variants.{Value, Refused}
 use Rattle.sheet.specs.Answers.{sheetAnswers}
+use Rattle.sheet.specs.Figures.{longestSheet, settlingBytes}
 use Rattle.sheet.specs.Got.{Got, value, refused}
 use Rattle.sheet.specs.Number.{outcome}
 use Rattle.sheet.specs.Reader.{tableAt, handed, sheetAt}
@@ -56,21 +57,21 @@ pub one-sheet : (s s' : List ℕ) → Bytes s → Bytes s' → (t : Table) → A
 one-sheet s s' b b' t h h' = accepts s b t .0 h .2 ∙ sym (accepts s' b' t .0 h' .2)
 
 -- "The longest sheet has 2,291 bytes"
-pub no-longer : (s : List ℕ) → Bytes s → (t : Table) → Accepts s t → length s ≤ 2291
+pub no-longer : (s : List ℕ) → Bytes s → (t : Table) → Accepts s t → length s ≤ longestSheet
 no-longer s b t h = longest s b (table-of s b t h .1)
 
 -- nor has any sound table a longer one
-pub written-no-longer : (t : Table) → Sound t → Shaped t → length (sheetOf t) ≤ 2291
+pub written-no-longer : (t : Table) → Sound t → Shaped t → length (sheetOf t) ≤ longestSheet
 written-no-longer t h sh = no-longer (sheetOf t) (sheet-bytes t) t (accepts (sheetOf t) (sheet-bytes t) t .1 (h, sh, refl))
 
 -- and one has as many
-pub longest-accepted : (s : List ℕ) × Bytes s × ((t : Table) × Accepts s t) × (length s ≡ 2291)
+pub longest-accepted : (s : List ℕ) × Bytes s × ((t : Table) × Accepts s t) × (length s ≡ longestSheet)
 longest-accepted =
     let t = fullTable in
     (sheetOf t, sheet-bytes t, (t, accepts (sheetOf t) (sheet-bytes t) t .1 (full-sound, full-shaped, refl)), full-long)
 
 -- "So reading 2,292 settles any input"
-pub settled : (s : List ℕ) → Bytes s → sheetAt s ≡ sheetAt (take 2292 s)
+pub settled : (s : List ℕ) → Bytes s → sheetAt s ≡ sheetAt (take settlingBytes s)
 unfolding sheetAt
 settled s b = ap handed (settles s b)
 

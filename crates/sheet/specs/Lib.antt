@@ -1,4 +1,5 @@
 pub mod Answers
+pub mod Figures
 pub mod Got
 pub mod Number
 pub mod Parts

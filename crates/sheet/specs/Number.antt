@@ -7,16 +7,13 @@ use lib.ListN.{length, getD}
 use Rattle.sheet.specs.Answers.{endsInside, needlessGroup, tooLarge, notRising}
 use Rattle.sheet.specs.declared.number.Number.{Number}
 use Rattle.sheet.specs.declared.number.Number.the-variants.{Value, Refused}
+use Rattle.sheet.specs.Figures.{further}
 use Rattle.sheet.specs.Got.{Got, value, refused, onward}
 
 -- "Reading a number answers either its value and the next place, or its refusal": the two cases of the code's enum
 abbrev pub outcome : Number → Got ℕ
 outcome (Value v next) = value v next
 outcome (Refused n) = refused n
-
--- "At most three groups": so many may follow the first
-abbrev pub further : ℕ
-further = 2
 
 -- a group, and the number of those that follow it: "31 if there is more than one group and the last is 0", for then that number is 0
 abbrev pub carried : ℕ → Got ℕ → Got ℕ

@@ -1,6 +1,7 @@
-// The hall sheet: its numbers, and its reader.
+// The hall sheet: its figures, its numbers, and its reader.
 mod answers;
 mod entry;
+pub mod figures;
 mod head;
 pub mod number;
 mod place;

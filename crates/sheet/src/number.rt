@@ -1,20 +1,19 @@
 // A number of the hall sheet: groups of seven bits, low group first.
 ghost use mathlib.Core.Path.{_≡_};
 ghost use Prim.Native.Nat.{_<_};
-ghost use Rattle.sheet.specs.Number.{outcome, further, carried, groupsAt, plainAt, numberAt, risingAt};
+ghost use Rattle.sheet.specs.Figures.{further};
+ghost use Rattle.sheet.specs.Number.{outcome, carried, groupsAt, plainAt, numberAt, risingAt};
 use crate::answers::ENDS_INSIDE;
 use crate::answers::NEEDLESS_GROUP;
 use crate::answers::NOT_RISING;
 use crate::answers::TOO_LARGE;
+use crate::figures::FURTHER;
 
 // A value and the next place, or the refusal.
 pub enum Number {
     Value(u64, usize),
     Refused(u32),
 }
-
-// At most three groups: so many may follow the first.
-const FURTHER: u64 = 2;
 
 fn wide(byte: u8) -> u64
     ensures { λ r. ⌜ r ≡ byte ⌝ }

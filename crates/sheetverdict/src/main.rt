@@ -1,5 +1,6 @@
 // Reads a sheet from standard input, judges it by route 0 and prints the verdict: the answer and, if that is 0, the named tasks and the ring.
 use demands::sheets::text_of;
+use sheet::figures::SETTLING_BYTES;
 ghost use Rattle.io.specs.Counts.{Counts};
 
 // How many bytes were read, up to the input's end or as far as there is room for them, and whether a read failed.
@@ -44,8 +45,7 @@ fn main() {
         io::write_all(2, b"usage: sheetverdict < SHEET\n");
         return;
     }
-    // no accepted sheet is longer than 2,291 bytes, and one byte more settles any input
-    let mut bytes = [0u8; 2292];
+    let mut bytes = [0u8; SETTLING_BYTES];
     let input = read_input(&mut bytes);
     if input.failed {
         io::write_all(2, b"sheetverdict: standard input cannot be read\n");

@@ -3,7 +3,8 @@ use borrow.Author.Needs.{needs}
 use native.Mathlib.Omega.{arith}
 use mathlib.Core.Path.{_≡_, sym, _∙_}
 use Prim.Native.Nat.{_-_}
-use Rattle.sheet.specs.Number.{further, carried, groupsAt}
+use Rattle.sheet.specs.Figures.{further}
+use Rattle.sheet.specs.Number.{carried, groupsAt}
 use Rattle.sheet.proofs.Groups.{over, over-start, over-ends, over-zero, over-last, over-turn, over-many, Below, below-start, weight-small, product-small, below-turn}
 use Rattle.sheet.proofs.number.more.Statement.{statement}
 use Rattle.sheet.proofs.number.more.Tie as tie
