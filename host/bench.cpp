@@ -94,7 +94,7 @@ std::size_t stack_of(const Way &way, const Bytes &sheet) {
 // The sheets
 
 Bytes written(const reference::Table &table) {
-    Bytes sheet(2291);
+    Bytes sheet(mollavisce::longest_sheet);
     sheet.resize(reference::write(table, sheet.data()));
     return sheet;
 }

@@ -22,6 +22,7 @@
 namespace {
 
 using Bytes = std::vector<std::uint8_t>;
+using mollavisce::longest_sheet, mollavisce::settling_bytes, mollavisce::strip_bytes;
 
 struct Call { // the one under way, for the report of a fault
     const Bytes *sheet;
@@ -94,7 +95,7 @@ Bytes pattern(std::size_t length) {
 }
 
 // One sheet by one route into a strip of a length: the answer, every byte of the strip and of the page about it.
-void hold(const Bytes &sheet, std::uint64_t route, std::size_t strip_length = 38) {
+void hold(const Bytes &sheet, std::uint64_t route, std::size_t strip_length = strip_bytes) {
     static Pages sheets(4), strips(1);
     static const Bytes before = pattern(strips.size);
     static Bytes expected;
@@ -144,11 +145,12 @@ void stated() {
     for (const Bench &row : bench)
         for (std::uint64_t route : {0, 1}) {
             const Bytes sheet = from_hex(row.sheet);
-            Bytes strip(38), right = from_hex(row.strip);
-            right.resize(38, 255);
-            present = {&sheet, route, 38};
+            Bytes strip(strip_bytes), right = from_hex(row.strip);
+            right.resize(strip_bytes, 255);
+            present = {&sheet, route, strip_bytes};
             ++calls;
-            ask(sheet_verdict(sheet.data(), sheet.size(), route, strip.data(), 38) == 0, "a bench sheet is refused");
+            ask(sheet_verdict(sheet.data(), sheet.size(), route, strip.data(), strip_bytes) == 0,
+                "a bench sheet is refused");
             ask(strip == right, "a bench sheet has another strip");
             const auto verdict = mollavisce::judge(sheet, static_cast<mollavisce::Route>(route));
             ask(std::equal(right.begin(), right.end(), verdict.strip.begin()), "judge gives another strip");
@@ -157,26 +159,27 @@ void stated() {
 
 // Routes, strips and pointers that a careful caller would not hand over.
 void odd() {
+    static const std::size_t strip_lengths[] = {0, 1, 6, strip_bytes - 1, strip_bytes, strip_bytes + 1, 64, 4096};
     for (const Bench &row : bench)
         for (std::uint64_t route : {0ull, 1ull, 2ull, 255ull, 256ull, 1ull << 32, 1ull << 63, ~0ull})
-            for (std::size_t strip_length : {0, 1, 6, 37, 38, 39, 64, 4096}) {
+            for (std::size_t strip_length : strip_lengths) {
                 hold(from_hex(row.sheet), route, strip_length);
                 hold({}, route, strip_length);
                 hold({2}, route, strip_length);
             }
     static const Bytes none;
-    std::uint8_t strip[38];
+    std::uint8_t strip[strip_bytes];
     present = {&none, 0, 0};
     for (std::uint64_t route : {0, 1}) {
         calls += 3;
-        ask(sheet_verdict(nullptr, 0, route, strip, 38) == 30, "null sheet: not 30");
+        ask(sheet_verdict(nullptr, 0, route, strip, strip_bytes) == 30, "null sheet: not 30");
         ask(sheet_verdict(nullptr, 0, route, nullptr, 0) == 40, "null strip: not 40");
         ask(sheet_verdict(nullptr, 0, 2 + route, nullptr, 0) == 41, "null strip and an odd route: not 41");
     }
     using mollavisce::Answer;
     Pages settling(1);
-    std::uint8_t *sheet = settling.buffer(mollavisce::settling_bytes, true);
-    std::memset(sheet, 0, mollavisce::settling_bytes);
+    std::uint8_t *sheet = settling.buffer(settling_bytes, true);
+    std::memset(sheet, 0, settling_bytes);
     sheet[0] = 1;
     const auto refusal = mollavisce::judge(nullptr, 23);
     ask(refusal.answer == Answer::sheet_ends && refusal.strip == mollavisce::nobody(), "judge of null: not 30");
@@ -236,7 +239,7 @@ std::mt19937_64 source(20261115);
 unsigned below(unsigned bound) { return static_cast<unsigned>(source() % bound); }
 
 Bytes written(const reference::Table &table) {
-    Bytes sheet(2291);
+    Bytes sheet(longest_sheet);
     sheet.resize(reference::write(table, sheet.data()));
     return sheet;
 }
@@ -285,7 +288,7 @@ void rings(unsigned count) {
         next[k] = (k + 1) % 32;
     const Bytes sheet = stepping(next);
     const auto verdict = mollavisce::judge(sheet);
-    present = {&sheet, 0, 38};
+    present = {&sheet, 0, strip_bytes};
     ask(verdict.count() == 32 && verdict.ring_length() == 32 && verdict.ring(31) == 31, "not a ring of all 32");
     both(sheet);
     for (; count > 0; --count) {
@@ -348,8 +351,8 @@ void longest() {
         }
     }
     const Bytes sheet = written(table);
-    present = {&sheet, 0, 38};
-    ask(sheet.size() == 2291, "the longest sheet has not 2,291 bytes");
+    present = {&sheet, 0, strip_bytes};
+    ask(sheet.size() == longest_sheet, "the longest sheet has another length");
     both(sheet);
     for (std::size_t at = 0; at < sheet.size(); ++at) {
         hold({sheet.begin(), sheet.begin() + static_cast<long>(at)}, at % 2);
@@ -359,7 +362,8 @@ void longest() {
             hold(damaged, at % 2);
         }
     }
-    for (std::size_t length : {2292, 2293, 4096, 12288, 16384}) {
+    static const std::size_t lengths[] = {settling_bytes, settling_bytes + 1, 4096, 12288, 16384};
+    for (std::size_t length : lengths) {
         Bytes longer = sheet;
         longer.resize(length, 1);
         both(longer);
@@ -377,7 +381,7 @@ void vectors(std::istream &lines) {
         both(sheet);
         for (std::uint64_t route : {0, 1}) {
             const auto verdict = mollavisce::judge(sheet, static_cast<mollavisce::Route>(route));
-            present = {&sheet, route, 38};
+            present = {&sheet, route, strip_bytes};
             ++calls;
             ask(static_cast<std::uint32_t>(verdict.answer) == answer, "another answer than the line's");
             ask(std::equal(right.begin(), right.end(), verdict.strip.begin()), "another strip than the line's");

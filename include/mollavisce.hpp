@@ -68,11 +68,12 @@ constexpr const char *words(Answer answer) noexcept {
     return "no such answer";
 }
 
-// No accepted sheet is longer than 2,291 bytes: one byte more settles any input.
-constexpr std::size_t settling_bytes = 2292;
+// No accepted sheet is longer, and so many bytes settle any input.
+constexpr std::size_t longest_sheet = 2291, settling_bytes = 2292;
 
 // Mask (4 bytes, low first), count, the ring's length, the ring filled up to 32 places with 255.
-using Strip = std::array<std::uint8_t, 38>;
+constexpr std::size_t strip_bytes = 38;
+using Strip = std::array<std::uint8_t, strip_bytes>;
 
 // The strip of a sheet in which nobody is named.
 constexpr Strip nobody() noexcept {
