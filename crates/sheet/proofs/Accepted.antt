@@ -123,13 +123,14 @@ module _ (s : List ℕ) (eight : Bytes s) where
       pub grown : Grown k x t u
       pub bytes : take next s ≡ w ++ listed (memberAt u k) (memberBytes u k) 16
 
-    members-ok : (w : List ℕ) (n at : ℕ) → Grown k x t (withState t k x) → ((p : ℕ) → memberAt (withState t k x) k p ≡ false) → take at s ≡ w ++ numberBytes n →
+    members-ok : (w : List ℕ) (n at : ℕ) → Grown k x t (withState t k x) → ((p : ℕ) → memberAt (withState t k x) k p ≡ false) →
+        take at s ≡ w ++ numberBytes n →
         Ok (MembersRead w) (each (memberStep s (t .opened) k) n (withState t k x) at)
     unfolding each
     members-ok w n at g e b =
         same-onward
-        (same-times (Joining (take at s) n) (memberStep s (t .opened) k) (memberStep s (t .opened) k) (member-ok (take at s) n) n (rising 0 (withState t k x)) at
-        (record { grown = g; part = part-start s n _ _ 16 at e }))
+        (same-times (Joining (take at s) n) (memberStep s (t .opened) k) (memberStep s (t .opened) k) (member-ok (take at s) n)
+        n (rising 0 (withState t k x)) at (record { grown = g; part = part-start s n _ _ 16 at e }))
         (λ r next j. fine (record { grown = j .grown; bytes = part-done s w n _ _ 16 (r .floor) next (rw b at (j .part)) }))
 
   -- ---- the tasks, n in all, of which `left` are still to be read
@@ -148,7 +149,8 @@ module _ (s : List ℕ) (eight : Bytes s) where
       (same-onward (entry-ok t (r .floor) at) (λ e first v.
       let k = e .number .0 in
       let x = e .state in
-      let none : (p : ℕ) → memberAt (withState t k x) k p ≡ false = λ p. state-reads t (j .shaped) k x (v .low) .members k p ∙ absent t (j .sound) k (j .part .none k (v .least) (v .low)) p in
+      let none : (p : ℕ) → memberAt (withState t k x) k p ≡ false =
+      λ p. state-reads t (j .shaped) k x (v .low) .members k p ∙ absent t (j .sound) k (j .part .none k (v .least) (v .low)) p in
       same-onward
       (members-ok k x t (v .low) (v .alive) (take at s ++ (numberBytes k ++ stateBytes x)) (e .count) first
       (grown-start k x t (v .low) (j .sound) (j .shaped) (v .alive) (v .awaits)) none (v .bytes))
@@ -169,13 +171,25 @@ module _ (s : List ℕ) (eight : Bytes s) where
     pub opens : t .opened ≡ opened
     pub bytes : take at s ≡ w ++ listed (liveAt t) (taskBytes t) 32
 
-  tasks-ok : (h : Head) (w : List ℕ) (first : ℕ) → length (h .opened) ≡ 16 → take first s ≡ w ++ numberBytes (h .count) → Ok (TasksRead (h .opened) w) (tasksAt s h first)
+  tasks-ok : (h : Head) (w : List ℕ) (first : ℕ) → length (h .opened) ≡ 16 → take first s ≡ w ++ numberBytes (h .count) →
+      Ok (TasksRead (h .opened) w) (tasksAt s h first)
   unfolding tasksAt each
   tasks-ok h w first l b =
+      let o = h .opened in
+      let n = h .count in
       same-onward
-      (same-times (Entering (h .opened) (take first s) (h .count)) (taskStep s (h .opened)) (taskStep s (h .opened)) (task-ok (h .opened) (take first s) (h .count)) (h .count) _ first
-      (record { sound = none-sound (h .opened); shaped = none-shaped (h .opened) l; opens = refl; part = part-start s (h .count) _ _ 32 first (λ i. ap isLive (none-reads (h .opened) .states i)) }))
-      (λ r at j. fine (record { sound = j .sound; shaped = j .shaped; opens = j .opens; bytes = part-done s w (h .count) _ _ 32 (r .floor) at (rw b at (j .part)) }))
+      (same-times (Entering o (take first s) n) (taskStep s o) (taskStep s o) (task-ok o (take first s) n) n _ first (record {
+        sound = none-sound o;
+        shaped = none-shaped o l;
+        opens = refl;
+        part = part-start s n _ _ 32 first (λ i. ap isLive (none-reads o .states i));
+      }))
+      (λ r at j. fine (record {
+        sound = j .sound;
+        shaped = j .shaped;
+        opens = j .opens;
+        bytes = part-done s w n _ _ 32 (r .floor) at (rw b at (j .part));
+      }))
 
   -- ---- the head: open phasers, n in all, of which `left` are still to be read
   record Opening (w : List ℕ) (n left : ℕ) (r : Rising (List Bool)) (at : ℕ) : Type 0 where

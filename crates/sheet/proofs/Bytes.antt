@@ -39,7 +39,10 @@ either false p q = q refl
 
 eight-groups : (k n : ℕ) → Eight (groupsOf k n)
 eight-groups zero n = eight-none
-eight-groups (suc k) n = either (ltb n 128) (λ e. eight-cons n [] (omega (arith, ltb-true n 128 e)) eight-none) (λ e. eight-cons (n % 128 + 128) _ (omega arith) (eight-groups k (n / 128)))
+eight-groups (suc k) n =
+    either (ltb n 128)
+    (λ e. eight-cons n [] (omega (arith, ltb-true n 128 e)) eight-none)
+    (λ e. eight-cons (n % 128 + 128) _ (omega arith) (eight-groups k (n / 128)))
 
 eight-number : (n : ℕ) → Eight (numberBytes n)
 unfolding numberBytes

@@ -27,7 +27,8 @@ Shortest n s = (sheetAt s .answer ≡ n) × (length s ≡ fewest n)
 
 pub refusals : Shortest 30 [] × Shortest 31 (128 ∷ 0 ∷ []) × Shortest 32 (1 ∷ 17 ∷ []) × Shortest 33 (1 ∷ 2 ∷ 0 ∷ 0 ∷ [])
     × Shortest 34 (0 ∷ []) × Shortest 35 (1 ∷ 0 ∷ 0 ∷ 0 ∷ []) × Shortest 36 (1 ∷ 0 ∷ 1 ∷ 0 ∷ 1 ∷ 0 ∷ [])
-unfolding sheetAt tableAt headAt listsAt countAt opensAt openStep each entriesAt tasksAt taskStep entryAt entryOn stateOn blockedAt eventAt plainAt numberAt risingAt
+unfolding sheetAt tableAt headAt listsAt countAt opensAt openStep each entriesAt tasksAt taskStep entryAt entryOn stateOn blockedAt eventAt
+    plainAt numberAt risingAt
 refusals = ((refl, refl), (refl, refl), (refl, refl), (refl, refl), (refl, refl), (refl, refl), (refl, refl))
 
 -- "The empty table is `01 00 00`"
@@ -41,8 +42,11 @@ p4 = 1 ∷ 2 ∷ 0 ∷ 1 ∷ 2 ∷ 0 ∷ 1 ∷ 0 ∷ 1 ∷ 2 ∷ 0 ∷ 1 ∷ 1 �
 -- P4: task 0 waits (0,1), task 1 waits (1,1); 0: 0@1, 1@0; 1: 0@0, 1@1
 abbrev pub SaysP4 : Table → Type 0
 SaysP4 t =
-    (memberAt t 0 0 ≡ true) × (memberAt t 1 0 ≡ true) × (memberAt t 0 1 ≡ true) × (memberAt t 1 1 ≡ true) × (stateAt t 0 ≡ Blocked (event 0 1)) × (stateAt t 1 ≡ Blocked (event 1 1)) × (phaseAt t 0 0 ≡ 1) × (phaseAt t 1 0 ≡ 0) × (phaseAt t 0 1 ≡ 0) × (phaseAt t 1 1 ≡ 1)
+    (memberAt t 0 0 ≡ true) × (memberAt t 1 0 ≡ true) × (memberAt t 0 1 ≡ true) × (memberAt t 1 1 ≡ true)
+    × (stateAt t 0 ≡ Blocked (event 0 1)) × (stateAt t 1 ≡ Blocked (event 1 1))
+    × (phaseAt t 0 0 ≡ 1) × (phaseAt t 1 0 ≡ 0) × (phaseAt t 0 1 ≡ 0) × (phaseAt t 1 1 ≡ 1)
 
 pub p4-read : (sheetAt p4 .answer ≡ 0) × SaysP4 (sheetAt p4 .table) × (sheetOf (sheetAt p4 .table) ≡ p4)
-unfolding sheetAt tableAt headAt listsAt countAt opensAt openStep each entriesAt tasksAt taskStep entryAt entryOn stateOn blockedAt eventAt phaseOn countOn membersAt memberStep membershipAt plainAt numberAt risingAt withState withEntry sheetOf listed numberBytes openAt stateAt memberAt phaseAt
+unfolding sheetAt tableAt headAt listsAt countAt opensAt openStep each entriesAt tasksAt taskStep entryAt entryOn stateOn blockedAt eventAt
+    phaseOn countOn membersAt memberStep membershipAt plainAt numberAt risingAt withState withEntry sheetOf listed numberBytes openAt stateAt memberAt phaseAt
 p4-read = (refl, (refl, refl, refl, refl, refl, refl, refl, refl, refl, refl), refl)

@@ -121,7 +121,8 @@ module _ (s : List ℕ) where
       same-onward (number 16 at h) (λ m first e.
       same-onward
       (same-times (λ j. Opening) (openStep s) (openStep s)
-      (λ j r mid l. same-onward (rises 15 (r .floor) mid (omega (arith, l .0)) (l .1)) (λ p next v. fine (omega (arith, l .0, v .0), λ z. omega (arith, l .0, v .0))))
+      (λ j r mid l. same-onward (rises 15 (r .floor) mid (omega (arith, l .0)) (l .1)) (λ p next v.
+      fine (omega (arith, l .0, v .0), λ z. omega (arith, l .0, v .0))))
       m (rising 0 (replicate 16 false)) first (omega (arith, e .0), λ z. absurd (omega arith)))
       (λ r next l. fine (l .0)))
 

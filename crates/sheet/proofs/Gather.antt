@@ -59,7 +59,8 @@ pub part-start : (s : List ℕ) (n : ℕ) (f : ℕ → Bool) (g : ℕ → List �
 part-start s n f g N at e = record { bytes = sym (append-nil _); high = omega arith; none = λ i x y. e i; counted = omega arith }
 
 -- one more, of number p
-pub part-step : (s w : List ℕ) (n : ℕ) (f f' : ℕ → Bool) (g g' : ℕ → List ℕ) (N left floor at next p : ℕ) → Part s w n f g N (suc left) floor at → floor ≤ p → p < N →
+pub part-step : (s w : List ℕ) (n : ℕ) (f f' : ℕ → Bool) (g g' : ℕ → List ℕ) (N left floor at next p : ℕ) →
+    Part s w n f g N (suc left) floor at → floor ≤ p → p < N →
     ((i : ℕ) → ¬ (i ≡ p) → f' i ≡ f i) → f' p ≡ true → ((i : ℕ) → ¬ (i ≡ p) → i < N → g' i ≡ g i) → take next s ≡ take at s ++ g' p →
     Part s w n f' g' N left (p + 1) next
 part-step s w n f f' g g' N left floor at next p h l hp fs fp gs b =
@@ -75,7 +76,8 @@ part-step s w n f f' g g' N left floor at next p h l hp fs fp gs b =
     }
 
 -- all are read
-pub part-done : (s w : List ℕ) (n : ℕ) (f : ℕ → Bool) (g : ℕ → List ℕ) (N floor at : ℕ) → Part s (w ++ numberBytes n) n f g N 0 floor at → take at s ≡ w ++ listed f g N
+pub part-done : (s w : List ℕ) (n : ℕ) (f : ℕ → Bool) (g : ℕ → List ℕ) (N floor at : ℕ) →
+    Part s (w ++ numberBytes n) n f g N 0 floor at → take at s ≡ w ++ listed f g N
 unfolding listed
 part-done s w n f g N floor at h =
     let k = skipped f g floor N (h .high) (h .none) in

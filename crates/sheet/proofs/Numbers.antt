@@ -78,22 +78,27 @@ pub record Read (s : List ℕ) (m floor at v next : ℕ) : Type 0 where
   pub most : v ≤ m
   pub least : floor ≤ v
 
+-- the same number, between others
+within : {s : List ℕ} {m m′ floor floor′ at v next : ℕ} → Read s m floor at v next → v ≤ m′ → floor′ ≤ v → Read s m′ floor′ at v next
+within r most least = record { place = r .place; bytes = r .bytes; short = r .short; most = most; least = least }
+
 module _ (s : List ℕ) (eight : Bytes s) where
   pub plain-ok : (at : ℕ) → Ok (Read s anyNumber 0 at) (plainAt s at)
   unfolding plainAt numberBytes
-  plain-ok at = same-weaker (λ v next n. record { place = n .place; bytes = n .bytes; short = n .short; most = omega (arith, n .small); least = omega arith }) (groups-ok s eight (suc further) at)
+  plain-ok at =
+      same-weaker
+      (λ v next n. record { place = n .place; bytes = n .bytes; short = n .short; most = omega (arith, n .small); least = omega arith })
+      (groups-ok s eight (suc further) at)
 
   pub number-ok : (m at : ℕ) → Ok (Read s m 0 at) (numberAt s m at)
   unfolding numberAt
   number-ok m at =
-      same-onward (plain-ok at) (λ v next r.
-      same-if _ (leb v m) (λ e. fine (record { place = r .place; bytes = r .bytes; short = r .short; most = leb-true v m e; least = omega arith })) (λ e. none tt))
+      same-onward (plain-ok at) (λ v next r. same-if _ (leb v m) (λ e. fine (within r (leb-true v m e) (omega arith))) (λ e. none tt))
 
   pub rising-ok : (m floor at : ℕ) → Ok (Read s m floor at) (risingAt s m floor at)
   unfolding risingAt
   rising-ok m floor at =
-      same-onward (number-ok m at) (λ v next r.
-      same-if _ (ltb v floor) (λ e. none tt) (λ e. fine (record { place = r .place; bytes = r .bytes; short = r .short; most = r .most; least = ltb-false v floor e })))
+      same-onward (number-ok m at) (λ v next r. same-if _ (ltb v floor) (λ e. none tt) (λ e. fine (within r (r .most) (ltb-false v floor e))))
 
 -- ---- what is to be read
 record Front (s : List ℕ) (at b : ℕ) (l : List ℕ) : Type 0 where
@@ -112,7 +117,8 @@ groups-read : (k n : ℕ) (s : List ℕ) (at : ℕ) (rest : List ℕ) → n < 12
     groupsAt k s at ≡ value n (at + length (groupsOf k n))
 groups-read (suc k) n s at rest h e pos = go (groups-read k (n / 128) s (at + 1) rest) (ltb n 128) refl
   where
-    go : (n / 128 < 128 ^ k → drop (at + 1) s ≡ groupsOf k (n / 128) ++ rest → 0 < k → groupsAt k s (at + 1) ≡ value (n / 128) (at + 1 + length (groupsOf k (n / 128)))) →
+    go : (n / 128 < 128 ^ k → drop (at + 1) s ≡ groupsOf k (n / 128) ++ rest → 0 < k →
+        groupsAt k s (at + 1) ≡ value (n / 128) (at + 1 + length (groupsOf k (n / 128)))) →
         (b : Bool) → ltb n 128 ≡ b → groupsAt (suc k) s at ≡ value n (at + length (groupsOf (suc k) n))
     go ih true t =
         let f : Front s at n rest = front s at n rest (rw t at e) in

@@ -34,7 +34,8 @@ unfoldable pub going : {A : Type 0} → (Rising A → ℕ → Got (Rising A)) �
 going step left floor a at = onward (times step left (rising floor a) at) (λ r next. value (r .sofar) next)
 
 module _ {A : Type 0} (step : Rising A → ℕ → Got (Rising A)) (floor : ℕ) (a : A) (at : ℕ) where
-  pub going-turn : (left : ℕ) {up next : ℕ} {b : A} → 0 < left → step (rising floor a) at ≡ value (rising up b) next → going step (left - 1) up b next ≡ going step left floor a at
+  pub going-turn : (left : ℕ) {up next : ℕ} {b : A} → 0 < left → step (rising floor a) at ≡ value (rising up b) next →
+      going step (left - 1) up b next ≡ going step left floor a at
   unfolding going
   going-turn (suc m) h e = let z : suc m - 1 ≡ m = omega arith in rw (z, e)
 

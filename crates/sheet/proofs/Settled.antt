@@ -115,7 +115,8 @@ module _ (s s' : List ℕ) (eight : Bytes s) (n : ℕ) (same : (i : ℕ) → i <
   tasks c h at l =
       same-onward
       (same-times (λ j. Left (j * longestEntry + c)) (taskStep s (h .opened)) (taskStep s' (h .opened))
-      (λ j r mid l. same-onward (entry (j * longestEntry + c) (h .opened) (r .floor) mid (omega arith)) (members (j * longestEntry + c) (h .opened) (r .sofar)))
+      (λ j r mid l.
+      same-onward (entry (j * longestEntry + c) (h .opened) (r .floor) mid (omega arith)) (members (j * longestEntry + c) (h .opened) (r .sofar)))
       (h .count) (rising 0 (noTasks (h .opened))) at l)
       (λ r next l. fine (omega arith))
 
@@ -135,7 +136,8 @@ module _ (s s' : List ℕ) (eight : Bytes s) (n : ℕ) (same : (i : ℕ) → i <
   head c l =
       same-onward (plain 0 (omega arith)) (λ version first e.
       same-if _ (eqb version 1)
-      (λ z. let w = one e (omega (arith, eqb-true version 1 z)) in same-onward (opens (1 + 32 * longestEntry + c) first (omega arith) (omega arith)) (λ o second f.
+      (λ z. let w = one e (omega (arith, eqb-true version 1 z)) in
+      same-onward (opens (1 + 32 * longestEntry + c) first (omega arith) (omega arith)) (λ o second f.
       same-onward (number 32 second (omega arith)) (λ m next g. let y = one g (omega (arith, g .most)) in fine (omega (arith, g .most)))))
       (λ z. none tt))
 

@@ -14,7 +14,7 @@ use Rattle.sheet.specs.declared.head.Head.{Head}
 use Rattle.sheet.specs.declared.place.Place.{Place}
 use Rattle.sheet.specs.declared.place.Place.the-variants.{At, Refused}
 use Rattle.sheet.specs.Answers.{bytesAfter}
-use Rattle.sheet.specs.Got.{Got, value, refused, onward, Rising, rising, each}
+use Rattle.sheet.specs.Got.{value, refused, onward, Rising, rising, each}
 use Rattle.sheet.specs.Parts.{placed, remainingOf, endedOf}
 use Rattle.sheet.specs.Number.{risingAt}
 use Rattle.sheet.specs.Head.{openStep}
@@ -70,7 +70,8 @@ ended-made s t (At at) = go (ltb at (length s))
 ended-made s t (Refused n) = refl
 
 module _ (s : List ℕ) (h : Head) where
-  all-made : (first : Place) → onward (placed first h) (entriesAt s) ≡ onward (gone (taskStep s (h .opened)) first (h .count) 0 (noTasks (h .opened))) (endedAt s)
+  all-made : (first : Place) →
+      onward (placed first h) (entriesAt s) ≡ onward (gone (taskStep s (h .opened)) first (h .count) 0 (noTasks (h .opened))) (endedAt s)
   unfolding entriesAt tasksAt each gone going
   all-made (At at) = refl
   all-made (Refused n) = refl
@@ -81,5 +82,6 @@ module _ (s : List ℕ) (h : Head) where
       placed (endedOf s place) t ≡ onward (placed first h) (entriesAt s)
   entries-made first place all left floor t a l g =
       let step = taskStep s (h .opened) in
-      let start : gone step first all 0 (noTasks (h .opened)) ≡ gone step first (h .count) 0 (noTasks (h .opened)) = rw a (gone-start step first (h .count) 0 (noTasks (h .opened))) in
+      let none = noTasks (h .opened) in
+      let start : gone step first all 0 none ≡ gone step first (h .count) 0 none = rw a (gone-start step first (h .count) 0 none) in
       ended-made s t place ∙ ap (λ u. onward u (endedAt s)) (gone-end step place left floor t l ∙ g ∙ start) ∙ sym (all-made first)

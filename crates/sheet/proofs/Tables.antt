@@ -20,7 +20,8 @@ use Rattle.sheet.specs.Written.{memberBytes, taskBytes}
 use Rattle.sheet.proofs.Gather.{listed-same}
 
 -- ---- a task that stays as it was
-same-bytes : (t u : Table) (i : ℕ) → stateAt u i ≡ stateAt t i → ((p : ℕ) → memberAt u i p ≡ memberAt t i p) → ((p : ℕ) → phaseAt u i p ≡ phaseAt t i p) → taskBytes u i ≡ taskBytes t i
+same-bytes : (t u : Table) (i : ℕ) → stateAt u i ≡ stateAt t i → ((p : ℕ) → memberAt u i p ≡ memberAt t i p) →
+    ((p : ℕ) → phaseAt u i p ≡ phaseAt t i p) → taskBytes u i ≡ taskBytes t i
 same-bytes t u i e m n =
     rw (e, listed-same (memberAt u i) (memberAt t i) (memberBytes u i) (memberBytes t i) 16 (λ p l. m p) (λ p l x. rw (n p)))
 
@@ -61,7 +62,8 @@ module _ (k : ℕ) (x : State) (t : Table) (low : k < 32) where
         others = λ i d. same-bytes t u i (states i d) (r .members i) (r .phases i);
       }
 
-  pub grown-more : (u : Table) → Grown k x t u → isLive x ≡ true → (p n : ℕ) → p < 16 → openAt t p ≡ true → n ≤ largestPhase → Grown k x t (withEntry u k p true n)
+  pub grown-more : (u : Table) → Grown k x t u → isLive x ≡ true → (p n : ℕ) → p < 16 → openAt t p ≡ true → n ≤ largestPhase →
+      Grown k x t (withEntry u k p true n)
   unfolding withEntry
   grown-more u g l p n hp o m =
       let v = withEntry u k p true n in

@@ -63,7 +63,8 @@ wipe-one n t h w = record {
   };
 }
   where
-    free : (j : ℕ) → n - 1 ≤ j → (b : Bool) → (b ≡ true → j ≡ n - 1) → (b ≡ false → ¬ (j ≡ n - 1)) → getD (set (t .tasks) (n - 1) freeTask) j freeTask ≡ freeTask
+    free : (j : ℕ) → n - 1 ≤ j → (b : Bool) → (b ≡ true → j ≡ n - 1) → (b ≡ false → ¬ (j ≡ n - 1)) →
+        getD (set (t .tasks) (n - 1) freeTask) j freeTask ≡ freeTask
     free j l true y d = rw (y refl) (getD-set-same (t .tasks) (n - 1) freeTask freeTask (omega (arith, w .tasks .long, w .tasks .high)))
     free j l false y d = getD-set-other (t .tasks) (n - 1) j freeTask freeTask (d refl) ∙ w .tasks .free j (let e = d refl in omega arith)
 
@@ -71,6 +72,9 @@ wipe-one n t h w = record {
 pub wiped-fresh : (n : ℕ) (t : Table) → n ≡ 0 → Wiped n t → t ≡ freshTable
 unfolding freshTable
 wiped-fresh n t h w =
-    let tasks : t .tasks ≡ replicate 32 freeTask = ext-getD freeTask (t .tasks) (replicate 32 freeTask) (w .tasks .long ∙ sym (length-replicate 32 freeTask)) (λ i l. w .tasks .free i (omega arith) ∙ sym (getD-all 32 i freeTask)) in
-    let fields : record { tasks = t .tasks; opened = t .opened; phases = t .phases; members = t .members } ≡ freshTable = rw (tasks, w .opened, w .phases, w .members) in
+    let tasks : t .tasks ≡ replicate 32 freeTask =
+    ext-getD freeTask (t .tasks) (replicate 32 freeTask) (w .tasks .long ∙ sym (length-replicate 32 freeTask))
+    (λ i l. w .tasks .free i (omega arith) ∙ sym (getD-all 32 i freeTask)) in
+    let fields : record { tasks = t .tasks; opened = t .opened; phases = t .phases; members = t .members } ≡ freshTable =
+    rw (tasks, w .opened, w .phases, w .members) in
     fields

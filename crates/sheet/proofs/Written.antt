@@ -31,10 +31,16 @@ abbrev mix : {A : Type 0} → ℕ → List A → List A → List A
 mix i xs ys = take i xs ++ drop i ys
 
 module _ {A : Type 0} (d : A) (xs ys : List A) (long : length xs ≡ length ys) where
-  mix-set : (i : ℕ) → i < length xs → set (mix i xs ys) i (getD xs i d) ≡ mix (suc i) xs ys
-  mix-set i h =
+  mix-set : (i : ℕ) {x : A} → x ≡ getD xs i d → i < length xs → set (mix i xs ys) i x ≡ mix (suc i) xs ys
+  mix-set i e h =
       let l : i < length ys = omega arith in
-      rw (drop-cons ys i d l, set-at (take i xs) (getD ys i d) (drop (suc i) ys) (getD xs i d) i (length-take-le i xs (omega arith)), take-suc xs i d h, append-assoc)
+      rw (
+        e,
+        drop-cons ys i d l,
+        set-at (take i xs) (getD ys i d) (drop (suc i) ys) (getD xs i d) i (length-take-le i xs (omega arith)),
+        take-suc xs i d h,
+        append-assoc,
+      )
 
   mix-skip : (i : ℕ) → i < length xs → getD xs i d ≡ getD ys i d → mix i xs ys ≡ mix (suc i) xs ys
   mix-skip i h e =
@@ -50,7 +56,8 @@ module _ {A : Type 0} (f : A → ℕ → Got A) where
   last-none (value b mid) = refl
   last-none (refused n) = refl
 
-  last-more : (n : ℕ) (g : Got A) → ((b : A) (mid : ℕ) → times f (n + 1) b mid ≡ onward (times f n b mid) f) → onward g (times f (n + 1)) ≡ onward (onward g (times f n)) f
+  last-more : (n : ℕ) (g : Got A) → ((b : A) (mid : ℕ) → times f (n + 1) b mid ≡ onward (times f n b mid) f) →
+      onward g (times f (n + 1)) ≡ onward (onward g (times f n)) f
   last-more n (value b mid) h = h b mid
   last-more n (refused m) h = refl
 
@@ -79,21 +86,25 @@ module _ (s : List ℕ) where
 
   -- ---- a rising list that stands on the sheet is read: what is read so far goes from X 0 to X N
   module _ {A : Type 0} (f : Rising A → ℕ → Got (Rising A)) (F : ℕ → Bool) (G : ℕ → List ℕ) (X : ℕ → A) (N : ℕ)
-      (step : (i at floor : ℕ) (rest : List ℕ) → i < N → F i ≡ true → floor ≤ i → drop at s ≡ G i ++ rest → f (rising floor (X i)) at ≡ value (rising (i + 1) (X (suc i))) (at + length (G i)))
+      (step : (i at floor : ℕ) (rest : List ℕ) → i < N → F i ≡ true → floor ≤ i → drop at s ≡ G i ++ rest →
+      f (rising floor (X i)) at ≡ value (rising (i + 1) (X (suc i))) (at + length (G i)))
       (skip : (i : ℕ) → i < N → F i ≡ false → X i ≡ X (suc i)) where
-    run : (at j : ℕ) → j ≤ N → (rest : List ℕ) → drop at s ≡ gather F G j ++ rest →
-        (floor : ℕ) × (floor ≤ j) × (times f (count F j) (rising 0 (X 0)) at ≡ value (rising floor (X j)) (at + length (gather F G j)))
+    -- those below j are read
+    abbrev Reached : ℕ → ℕ → Type 0
+    Reached at j = (floor : ℕ) × (floor ≤ j) × (times f (count F j) (rising 0 (X 0)) at ≡ value (rising floor (X j)) (at + length (gather F G j)))
+
+    run : (at j : ℕ) → j ≤ N → (rest : List ℕ) → drop at s ≡ gather F G j ++ rest → Reached at j
     run at zero h rest e = (0, omega arith, let z : at + 0 ≡ at = omega arith in rw z)
     run at (suc j) h rest e = go (F j) refl (run at j (omega arith))
       where
-        go : (b : Bool) → F j ≡ b → ((rest : List ℕ) → drop at s ≡ gather F G j ++ rest →
-            (floor : ℕ) × (floor ≤ j) × (times f (count F j) (rising 0 (X 0)) at ≡ value (rising floor (X j)) (at + length (gather F G j)))) →
-            (floor : ℕ) × (floor ≤ suc j) × (times f (count F (suc j)) (rising 0 (X 0)) at ≡ value (rising floor (X (suc j))) (at + length (gather F G (suc j))))
+        go : (b : Bool) → F j ≡ b → ((rest : List ℕ) → drop at s ≡ gather F G j ++ rest → Reached at j) → Reached at (suc j)
         go true x ih =
-            let e1 : drop at s ≡ gather F G j ++ (G j ++ rest) = (rw x at e) ∙ append-assoc (gather F G j) (G j) rest in
+            let g = gather F G j in
+            let e1 : drop at s ≡ g ++ (G j ++ rest) = (rw x at e) ∙ append-assoc g (G j) rest in
             let r = ih (G j ++ rest) e1 in
-            let w : at + length (gather F G j) + length (G j) ≡ at + length (gather F G j ++ G j) = omega (arith, length-append (gather F G j) (G j)) in
-            (j + 1, omega arith, rw (x, times-last f (count F j) (rising 0 (X 0)) at, r .2, step j (at + length (gather F G j)) (r .0) rest (omega arith) x (r .1) (behind at (gather F G j) (G j ++ rest) e1), w))
+            let w : at + length g + length (G j) ≡ at + length (g ++ G j) = omega (arith, length-append g (G j)) in
+            let last = step j (at + length g) (r .0) rest (omega arith) x (r .1) (behind at g (G j ++ rest) e1) in
+            (j + 1, omega arith, rw (x, times-last f (count F j) (rising 0 (X 0)) at, r .2, last, w))
         go false x ih =
             let r = ih rest (rw x at e) in
             (r .0, omega (arith, r .1), rw (x, ← skip j (omega arith) x) (r .2))
@@ -142,7 +153,8 @@ module _ (t : Table) (h : Sound t) (sh : Shaped t) (s : List ℕ) where
   read-event p n floor at rest o l f e =
       let e1 : drop at s ≡ numberBytes p ++ (numberBytes n ++ rest) = e ∙ append-assoc (numberBytes p) (numberBytes n) rest in
       let i = open-below t p o in
-      let w : at + length (numberBytes p) + length (numberBytes n) ≡ at + length (numberBytes p ++ numberBytes n) = omega (arith, length-append (numberBytes p) (numberBytes n)) in
+      let w : at + length (numberBytes p) + length (numberBytes n) ≡ at + length (numberBytes p ++ numberBytes n) =
+      omega (arith, length-append (numberBytes p) (numberBytes n)) in
       rw (
         read-rising p s at (numberBytes n ++ rest) e1 15 floor (omega arith) (omega arith) f,
         sym (open-in t p i) ∙ o,
@@ -160,8 +172,8 @@ module _ (t : Table) (h : Sound t) (sh : Shaped t) (s : List ℕ) where
     joined p l m =
         let i = k * 16 + p in
         let z : k * 16 + suc p ≡ suc (k * 16 + p) = omega arith in
-        let x = ap (set (mix i (t .phases) (replicate 512 phase0)) i) (phase-flat p l) ∙ mix-set phase0 (t .phases) (replicate 512 phase0) same-phases i (omega (arith, sh .phases)) in
-        let y = ap (set (mix i (t .members) (replicate 512 false)) i) (sym m ∙ member-in t k p hk l) ∙ mix-set false (t .members) (replicate 512 false) same-members i (omega (arith, sh .members)) in
+        let x = mix-set phase0 (t .phases) (replicate 512 phase0) same-phases i (phase-flat p l) (omega (arith, sh .phases)) in
+        let y = mix-set false (t .members) (replicate 512 false) same-members i (sym m ∙ member-in t k p hk l) (omega (arith, sh .members)) in
         rw (z, x, y)
 
     passed : (p : ℕ) → p < 16 → memberAt t k p ≡ false → upTo (suc k) k p ≡ upTo (suc k) k (suc p)
@@ -171,7 +183,8 @@ module _ (t : Table) (h : Sound t) (sh : Shaped t) (s : List ℕ) where
         let z : k * 16 + suc p ≡ suc (k * 16 + p) = omega arith in
         let n : getD (t .phases) i phase0 ≡ phase0 = sym (phase-flat p l) ∙ ap (λ (n : ℕ). record { 0 = n }) (h .no-member k p m) in
         let x = mix-skip phase0 (t .phases) (replicate 512 phase0) same-phases i (omega (arith, sh .phases)) (n ∙ sym (getD-all 512 i phase0)) in
-        let y = mix-skip false (t .members) (replicate 512 false) same-members i (omega (arith, sh .members)) (sym (member-in t k p hk l) ∙ m ∙ sym (getD-all 512 i false)) in
+        let y = mix-skip false (t .members) (replicate 512 false) same-members i (omega (arith, sh .members))
+        (sym (member-in t k p hk l) ∙ m ∙ sym (getD-all 512 i false)) in
         rw (z, x, y)
 
     all-passed : (p : ℕ) → p ≤ 16 → ((q : ℕ) → memberAt t k q ≡ false) → upTo (suc k) k 0 ≡ upTo (suc k) k p
@@ -190,8 +203,7 @@ module _ (t : Table) (h : Sound t) (sh : Shaped t) (s : List ℕ) where
 
     stated : withState (upTo k k 0) k (stateAt t k) ≡ upTo (suc k) k 0
     unfolding upTo withState
-    stated =
-        rw (ap (set (mix k (t .tasks) (replicate 32 freeTask)) k) state-flat ∙ mix-set freeTask (t .tasks) (replicate 32 freeTask) same-tasks k (omega (arith, sh .tasks)))
+    stated = rw (mix-set freeTask (t .tasks) (replicate 32 freeTask) same-tasks k state-flat (omega (arith, sh .tasks)))
 
     free : (x : State) → isLive x ≡ false → x ≡ Free
     free Free e = refl
@@ -204,7 +216,8 @@ module _ (t : Table) (h : Sound t) (sh : Shaped t) (s : List ℕ) where
         let e : getD (t .tasks) k freeTask ≡ freeTask = sym state-flat ∙ ap (λ (x : State). record { state = x }) (free (stateAt t k) l) in
         rw (mix-skip freeTask (t .tasks) (replicate 32 freeTask) same-tasks k (omega (arith, sh .tasks)) (e ∙ sym (getD-all 32 k freeTask)))
 
-    read-state : (x : State) (at : ℕ) (rest : List ℕ) → stateAt t k ≡ x → isLive x ≡ true → drop at s ≡ stateBytes x ++ rest → stateOn s (t .opened) at ≡ value x (at + length (stateBytes x))
+    read-state : (x : State) (at : ℕ) (rest : List ℕ) → stateAt t k ≡ x → isLive x ≡ true → drop at s ≡ stateBytes x ++ rest →
+        stateOn s (t .opened) at ≡ value x (at + length (stateBytes x))
     unfolding stateOn blockedAt
     read-state Free at rest x l e = absurd (clash l refl)
     read-state Running at rest x l e = rw (read-plain 0 s at rest e (omega arith))
@@ -214,7 +227,8 @@ module _ (t : Table) (h : Sound t) (sh : Shaped t) (s : List ℕ) where
         let w : at + length (numberBytes 1) + length b ≡ at + length (numberBytes 1 ++ b) = omega (arith, length-append (numberBytes 1) b) in
         rw (
           read-plain 1 s at (b ++ rest) e1 (omega arith),
-          read-event (v .phaser .0) (v .phase .0) 0 (at + length (numberBytes 1)) rest (h .open-awaited k v x) (h .awaited k v x) (omega arith) (behind s at (numberBytes 1) (b ++ rest) e1),
+          read-event (v .phaser .0) (v .phase .0) 0 (at + length (numberBytes 1)) rest
+              (h .open-awaited k v x) (h .awaited k v x) (omega arith) (behind s at (numberBytes 1) (b ++ rest) e1),
           w,
         )
 
@@ -235,14 +249,16 @@ module _ (t : Table) (h : Sound t) (sh : Shaped t) (s : List ℕ) where
         let e2 = behind s at n (x ++ (c ++ (m ++ rest))) e1 in
         let e3 = behind s (at + length n) x (c ++ (m ++ rest)) e2 in
         let e4 = behind s (at + length n + length x) c (m ++ rest) e3 in
-        let w : at + length n + length x + length c + length m ≡ at + length (n ++ (x ++ (c ++ m))) = rw (length-append n (x ++ (c ++ m)), length-append x (c ++ m), length-append c m) (omega arith) in
+        let w : at + length n + length x + length c + length m ≡ at + length (n ++ (x ++ (c ++ m))) =
+        rw (length-append n (x ++ (c ++ m)), length-append x (c ++ m), length-append c m) (omega arith) in
         rw (
           list-parts (memberAt t k) (memberBytes t k) 16,
           read-rising k s at (x ++ (c ++ (m ++ rest))) e1 31 floor (omega arith) (omega arith) f,
           read-state (stateAt t k) (at + length n) (c ++ (m ++ rest)) refl l e2,
           read-number (many (memberAt t k) 16) s (at + length n + length x) (m ++ rest) e3 16 (omega arith) (many-few (memberAt t k) 16),
           stated,
-          read-each s (memberStep s (t .opened) k) (memberAt t k) (memberBytes t k) (upTo (suc k) k) 16 read-member passed (at + length n + length x + length c) rest e4,
+          read-each s (memberStep s (t .opened) k) (memberAt t k) (memberBytes t k) (upTo (suc k) k) 16 read-member passed
+              (at + length n + length x + length c) rest e4,
           next-task,
           w,
         )
@@ -271,7 +287,9 @@ module _ (t : Table) (h : Sound t) (sh : Shaped t) (s : List ℕ) where
       tasksAt s (record { version = 1; opened = t .opened; count = many (liveAt t) 32 }) at ≡ value t (at + length tasks)
   unfolding tasksAt
   read-tasks at rest e =
-      rw none-yet (read-each s (taskStep s (t .opened)) (liveAt t) (taskBytes t) (λ k. upTo k k 0) 32 (λ k at floor rest hk. read-task k hk at floor rest) task-passed at rest e)
+      rw none-yet
+      (read-each s (taskStep s (t .opened)) (liveAt t) (taskBytes t) (λ k. upTo k k 0) 32
+      (λ k at floor rest hk. read-task k hk at floor rest) task-passed at rest e)
       ∙ ap (λ u. value u (at + length tasks)) all-tasks
 
   -- ---- the head
@@ -285,12 +303,13 @@ module _ (t : Table) (h : Sound t) (sh : Shaped t) (s : List ℕ) where
       openStep s (rising floor (openUpTo p)) at ≡ value (rising (p + 1) (openUpTo (suc p))) (at + length (numberBytes p))
   unfolding openStep openUpTo
   read-open p at floor rest l o f e =
-      let y = ap (set (mix p (t .opened) (replicate 16 false)) p) (sym o ∙ open-in t p l) ∙ mix-set false (t .opened) (replicate 16 false) same-opened p (omega (arith, sh .opened)) in
+      let y = mix-set false (t .opened) (replicate 16 false) same-opened p (sym o ∙ open-in t p l) (omega (arith, sh .opened)) in
       rw (read-rising p s at rest e 15 floor (omega arith) (omega arith) f, y)
 
   open-passed : (p : ℕ) → p < 16 → openAt t p ≡ false → openUpTo p ≡ openUpTo (suc p)
   unfolding openUpTo
-  open-passed p l o = mix-skip false (t .opened) (replicate 16 false) same-opened p (omega (arith, sh .opened)) (sym (open-in t p l) ∙ o ∙ sym (getD-all 16 p false))
+  open-passed p l o =
+      mix-skip false (t .opened) (replicate 16 false) same-opened p (omega (arith, sh .opened)) (sym (open-in t p l) ∙ o ∙ sym (getD-all 16 p false))
 
   none-open : replicate 16 false ≡ openUpTo 0
   unfolding openUpTo
@@ -306,7 +325,9 @@ module _ (t : Table) (h : Sound t) (sh : Shaped t) (s : List ℕ) where
   read-opens : (at : ℕ) (rest : List ℕ) → drop at s ≡ opens ++ rest → opensAt s at ≡ value (t .opened) (at + length opens)
   unfolding opensAt
   read-opens at rest e =
-      rw none-open (read-list s (openStep s) (openAt t) numberBytes openUpTo 16 read-open open-passed 16 at rest (omega arith) (omega arith) e ∙ ap (λ o. value o (at + length opens)) all-open)
+      rw none-open
+      (read-list s (openStep s) (openAt t) numberBytes openUpTo 16 read-open open-passed 16 at rest (omega arith) (omega arith) e
+      ∙ ap (λ o. value o (at + length opens)) all-open)
 
   -- ---- version, open phasers, how many tasks, and each
   parts : sheetOf t ≡ numberBytes 1 ++ (opens ++ (numberBytes (many (liveAt t) 32) ++ tasks))
@@ -324,7 +345,8 @@ module _ (t : Table) (h : Sound t) (sh : Shaped t) (s : List ℕ) where
       let e1 = behind s 0 v (o ++ (n ++ (g ++ []))) e0 in
       let e2 = behind s (0 + length v) o (n ++ (g ++ [])) e1 in
       let e3 = behind s (0 + length v + length o) n (g ++ []) e2 in
-      let w : 0 + length v + length o + length n + length g ≡ length s = rw (e, parts, length-append v (o ++ (n ++ g)), length-append o (n ++ g), length-append n g) (omega arith) in
+      let w : 0 + length v + length o + length n + length g ≡ length s =
+      rw (e, parts, length-append v (o ++ (n ++ g)), length-append o (n ++ g), length-append n g) (omega arith) in
       rw (
         read-plain 1 s 0 (o ++ (n ++ (g ++ []))) e0 (omega arith),
         read-opens (0 + length v) (n ++ (g ++ [])) e1,

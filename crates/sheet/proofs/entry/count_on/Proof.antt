@@ -22,7 +22,10 @@ no-entry-requires c κs = search needs
 returns : tie.Need-returns
 unfolding countOn
 returns c =
-    (rw (c .no-entry .ensures .0, c .before .after .ensures, ← c .before .before .before .before .read .ensures, c .before .before .enum-told .given .1), omega (arith, c .no-entry .ensures .1))
+    let told = c .before .before in (
+      rw (c .no-entry .ensures .0, c .before .after .ensures, ← told .before .before .read .ensures, told .enum-told .given .1),
+      omega (arith, c .no-entry .ensures .1),
+    )
 
 returns-2 : tie.Need-returns-2
 unfolding countOn

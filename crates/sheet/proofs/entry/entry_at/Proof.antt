@@ -24,7 +24,10 @@ no-entry-requires c κs = search needs
 returns : tie.Need-returns
 unfolding entryAt
 returns c =
-    (rw (c .no-entry .ensures .0, c .before .after .ensures, ← c .before .before .before .before .rising .ensures, c .before .before .enum-told .given .1), omega (arith, c .no-entry .ensures .1))
+    let told = c .before .before in (
+      rw (c .no-entry .ensures .0, c .before .after .ensures, ← told .before .before .rising .ensures, told .enum-told .given .1),
+      omega (arith, c .no-entry .ensures .1),
+    )
 
 entry-on-requires : tie.Need-entry-on-requires
 entry-on-requires c κs = search needs
@@ -32,8 +35,9 @@ entry-on-requires c κs = search needs
 returns-2 : tie.Need-returns-2
 unfolding entryAt
 returns-2 c =
-    let read = c .before .before .before .before .rising .ensures in
-    let number = c .before .before .number .given .1 in
+    let n = c .before .before in
+    let read = n .before .before .rising .ensures in
+    let number = n .number .given .1 in
     (rw (← read, number) (c .entry-on .ensures .0), omega (arith, c .entry-on .ensures .1, rising-within _ _ _ _ (number-read read number) .1))
 
 pub entry-at-spec : {M : Type 1} → statement M

@@ -18,14 +18,20 @@ no-entry-requires c κs = search needs
 
 returns : tie.Need-returns
 unfolding entryOn
-returns c = (rw (← c .before .before .before .state-on .ensures, c .no-entry .ensures .0, c .before .enum-told .given .1), omega (arith, c .no-entry .ensures .1))
+returns c =
+    let told = c .before in (
+      rw (← told .before .before .state-on .ensures, c .no-entry .ensures .0, told .enum-told .given .1),
+      omega (arith, c .no-entry .ensures .1),
+    )
 
 count-on-requires : tie.Need-count-on-requires
 count-on-requires c κs = search needs
 
 returns-2 : tie.Need-returns-2
 unfolding entryOn
-returns-2 c = (rw (← c .before .before .before .before .state-on .ensures, c .before .before .place .given .1) (c .count-on .ensures .0), c .count-on .ensures .1)
+returns-2 c =
+    let place = c .before .before in
+    (rw (← place .before .before .state-on .ensures, place .place .given .1) (c .count-on .ensures .0), c .count-on .ensures .1)
 
 pub entry-on-spec : {M : Type 1} → statement M
 entry-on-spec =

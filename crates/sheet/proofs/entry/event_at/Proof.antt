@@ -34,10 +34,21 @@ no-event-requires c κs = search needs
 returns : tie.Need-returns
 unfolding eventAt
 returns c =
-    (rw (c .no-event .ensures .0, c .before .after .ensures, ← c .before .before .before .before .rising .ensures, c .before .before .enum-told .given .1), omega (arith, c .no-event .ensures .1))
+    let told = c .before .before in (
+      rw (c .no-event .ensures .0, c .before .after .ensures, ← told .before .before .rising .ensures, told .enum-told .given .1),
+      omega (arith, c .no-event .ensures .1),
+    )
+
+-- the phaser that was read
+abbrev start : tie.After-number → tie.Start
+start c = c .before .before .before .before
+
+phaser-read : (c : tie.After-number) →
+    risingAt (start c .args .sheet .now) 15 (start c .args .floor) (start c .args .at) ≡ value (c .number .given .0 .0) (c .number .given .0 .1 .0)
+phaser-read c = number-read (c .before .before .rising .ensures) (c .number .given .1)
 
 element-copy-out-if1 : tie.Need-element-copy-out-if1
-element-copy-out-if1 c = omega (arith, rising-within _ _ _ _ (number-read (c .before .before .before .rising .ensures) (c .before .number .given .1)) .1)
+element-copy-out-if1 c = omega (arith, rising-within _ _ _ _ (phaser-read (c .before)) .1)
 
 phase-on-requires : tie.Need-phase-on-requires
 phase-on-requires c κs = search needs
@@ -58,16 +69,18 @@ event-shut s opened floor at phaser next e o = rw (e, o)
 
 returns-2 : tie.Need-returns-2
 returns-2 c =
-    let a = c .before .before .before .before .before .before .before .before .args in
-    let read = number-read (c .before .before .before .before .before .before .rising .ensures) (c .before .before .before .before .number .given .1) in (
+    let n = c .before .before .before .before in
+    let a = start n .args in
+    let read = phaser-read n in (
       c .phase-on .ensures .0 ∙ sym (event-open (a .sheet .now) (a .opened .now) (a .floor) (a .at) _ _ read (c .before .if1 .taken)),
       omega (arith, c .phase-on .ensures .1, rising-within _ _ _ _ read .1),
     )
 
 returns-3 : tie.Need-returns-3
 returns-3 c =
-    let a = c .before .before .before .before .before .before .before .before .args in
-    let read = number-read (c .before .before .before .before .before .before .rising .ensures) (c .before .before .before .before .number .given .1) in (
+    let n = c .before .before .before .before in
+    let a = start n .args in
+    let read = phaser-read n in (
       ap (λ (p : Place). placed p (c .no-event2 .result .event)) (c .no-event2 .ensures .0)
           ∙ sym (event-shut (a .sheet .now) (a .opened .now) (a .floor) (a .at) _ _ read (c .before .if1 .left)),
       omega (arith, c .no-event2 .ensures .1),

@@ -27,7 +27,10 @@ no-event-requires c κs = search needs
 returns : tie.Need-returns
 unfolding phaseOn
 returns c =
-    (rw (c .no-event .ensures .0, c .before .after .ensures, ← c .before .before .before .before .read .ensures, c .before .before .enum-told .given .1), omega (arith, c .no-event .ensures .1))
+    let told = c .before .before in (
+      rw (c .no-event .ensures .0, c .before .after .ensures, ← told .before .before .read .ensures, told .enum-told .given .1),
+      omega (arith, c .no-event .ensures .1),
+    )
 
 cast-t10 : tie.Need-cast-t10
 cast-t10 c = omega (arith, number-bound _ _ _ (number-read (c .before .before .before .read .ensures) (c .before .number .given .1)))

@@ -30,7 +30,14 @@ returns : tie.Need-returns
 unfolding stateOn
 returns c = rw (c .after .ensures, ← c .before .before .before .plain .ensures, c .before .enum-told .given .1)
 
--- the state's number was read: 0, 1 or any other
+-- the state's number that was read
+abbrev start : tie.After-number → tie.Start
+start c = c .before .before .before .before
+
+kind-read : (c : tie.After-number) → plainAt (start c .args .sheet .now) (start c .args .at) ≡ value (c .number .given .0 .0) (c .number .given .0 .1 .0)
+kind-read c = number-read (c .before .before .plain .ensures) (c .number .given .1)
+
+-- it is 0, 1 or any other
 state-running : (s : List ℕ) (opened : List Bool) (at kind next : ℕ) → plainAt s at ≡ value kind next → kind ≡ 0
     → stateOn s opened at ≡ value Running next
 unfolding stateOn
@@ -48,20 +55,20 @@ state-unknown s opened at kind next e k l = rw (e, ne-eqb kind 0 k, ne-eqb kind 
 
 returns-2 : tie.Need-returns-2
 returns-2 c =
-    let read = number-read (c .before .before .before .before .plain .ensures) (c .before .before .number .given .1) in
-    sym (state-running _ (c .before .before .before .before .before .before .args .opened .now) _ _ _ read (omega (arith, c .if1 .taken)))
+    let n = c .before .before in
+    sym (state-running _ (start n .args .opened .now) _ _ _ (kind-read n) (omega (arith, c .if1 .taken)))
 
 blocked-at-requires : tie.Need-blocked-at-requires
 blocked-at-requires c κs = search needs
 
 returns-3 : tie.Need-returns-3
 returns-3 c =
-    let read = number-read (c .before .before .before .before .before .before .plain .ensures) (c .before .before .before .before .number .given .1) in
+    let read = kind-read (c .before .before .before .before) in
     c .blocked-at .ensures ∙ sym (state-blocked _ _ _ _ _ read (omega (arith, c .before .if2 .taken)))
 
 returns-4 : tie.Need-returns-4
 returns-4 c =
-    let read = number-read (c .before .before .before .before .before .plain .ensures) (c .before .before .before .number .given .1) in
+    let read = kind-read (c .before .before .before) in
     sym (state-unknown _ _ _ _ _ read (λ e. omega (arith, e, c .before .if1 .left)) (λ e. omega (arith, e, c .if2 .left)))
 
 pub state-on-spec : {M : Type 1} → statement M

@@ -20,7 +20,9 @@ no-head-requires c κs = search needs
 
 returns : tie.Need-returns
 unfolding countAt
-returns c = rw (c .no-head .ensures, c .before .after .ensures, ← c .before .before .before .before .read .ensures, c .before .before .enum-told .given .1)
+returns c =
+    let told = c .before .before in
+    rw (c .no-head .ensures, c .before .after .ensures, ← told .before .before .read .ensures, told .enum-told .given .1)
 
 returns-2 : tie.Need-returns-2
 unfolding countAt

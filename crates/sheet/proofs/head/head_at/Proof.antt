@@ -31,10 +31,17 @@ no-head-requires c κs = search needs
 
 returns : tie.Need-returns
 unfolding headAt
-returns c = rw (c .no-head .ensures, c .before .after .ensures, ← c .before .before .before .before .plain .ensures, c .before .before .enum-told .given .1)
+returns c =
+    let told = c .before .before in
+    rw (c .no-head .ensures, c .before .after .ensures, ← told .before .before .plain .ensures, told .enum-told .given .1)
 
 no-head-requires-2 : tie.Need-no-head-requires-2
 no-head-requires-2 c κs = search needs
+
+-- the version that was read
+version-read : (c : tie.After-number) →
+    plainAt (c .before .before .before .before .args .sheet .now) 0 ≡ value (c .number .given .0 .0) (c .number .given .0 .1 .0)
+version-read c = number-read (c .before .before .plain .ensures) (c .number .given .1)
 
 -- a version was read, and it is 1; or it is not
 head-known : (s : List ℕ) (version first : ℕ) → plainAt s 0 ≡ value version first → version ≡ 1 → headAt s ≡ listsAt s version first
@@ -47,17 +54,15 @@ head-unknown s version first e other = rw (e, ne-eqb version 1 other)
 
 returns-2 : tie.Need-returns-2
 returns-2 c =
-    let read = number-read (c .before .before .before .before .before .plain .ensures) (c .before .before .before .number .given .1) in
     ap (λ (p : Place). placed p (c .no-head2 .result .head)) (c .no-head2 .ensures)
-    ∙ sym (head-unknown _ _ _ read (λ e. omega (arith, e, c .before .if1 .taken)))
+    ∙ sym (head-unknown _ _ _ (version-read (c .before .before .before)) (λ e. omega (arith, e, c .before .if1 .taken)))
 
 lists-at-requires : tie.Need-lists-at-requires
 lists-at-requires c κs = search needs
 
 returns-3 : tie.Need-returns-3
 returns-3 c =
-    let read = number-read (c .before .before .before .before .before .plain .ensures) (c .before .before .before .number .given .1) in
-    c .lists-at .ensures ∙ sym (head-known _ _ _ read (omega (arith, c .before .if1 .left)))
+    c .lists-at .ensures ∙ sym (head-known _ _ _ (version-read (c .before .before .before)) (omega (arith, c .before .if1 .left)))
 
 pub head-at-spec : {M : Type 1} → statement M
 head-at-spec =

@@ -24,7 +24,9 @@ count-at-requires c κs = search needs
 
 returns-2 : tie.Need-returns-2
 unfolding listsAt
-returns-2 c = rw (← c .before .before .before .before .before .opens-at .ensures, c .before .before .before .place .given .1) (c .count-at .ensures)
+returns-2 c =
+    let place = c .before .before .before in
+    rw (← place .before .before .opens-at .ensures, place .place .given .1) (c .count-at .ensures)
 
 pub lists-at-spec : {M : Type 1} → statement M
 lists-at-spec =

@@ -24,7 +24,7 @@ opens-run-requires c κs = search needs
 
 returns-2 : tie.Need-returns-2
 unfolding opensAt
-returns-2 c = rw (← c .before .before .before .before .read .ensures, c .before .before .number .given .1) (c .opens-run .ensures)
+returns-2 c = let n = c .before .before in rw (← n .before .before .read .ensures, n .number .given .1) (c .opens-run .ensures)
 
 pub opens-at-spec : {M : Type 1} → statement M
 opens-at-spec =

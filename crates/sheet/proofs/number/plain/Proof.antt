@@ -26,11 +26,15 @@ add-more : tie.Need-add-more
 add-more c = search needs
 
 more-requires : tie.Need-more-requires
-more-requires c κs = omega (arith, c .before .wide .ensures, c .before .before .shared-slice-known2 .given (c .before .before .before .before .before .args .at))
+more-requires c κs =
+    let known = c .before .before in
+    omega (arith, c .before .wide .ensures, known .shared-slice-known2 .given (known .before .before .before .args .at))
 
 returns-3 : tie.Need-returns-3
 unfolding plainAt
-returns-3 c = rw (lt-leb _ _ (c .before .before .before .before .if1 .left), ← c .before .before .wide .ensures, le-ltb _ _ (c .before .if2 .left)) (c .more .ensures)
+returns-3 c =
+    let group = c .before .before in
+    rw (lt-leb _ _ (group .before .before .if1 .left), ← group .wide .ensures, le-ltb _ _ (c .before .if2 .left)) (c .more .ensures)
 
 pub plain-spec : {M : Type 1} → statement M
 plain-spec =

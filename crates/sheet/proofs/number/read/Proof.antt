@@ -1,5 +1,6 @@
 use borrow.Author.Needs.{needs}
 use native.Mathlib.Omega.{arith}
+use Prim.Native.Nat.{ℕ}
 use borrow.Author.Tests.{lt-leb, le-leb}
 use Rattle.sheet.specs.Number.{numberAt}
 use Rattle.sheet.proofs.number.read.Statement.{statement}
@@ -18,13 +19,24 @@ returns : tie.Need-returns
 unfolding numberAt
 returns c = rw (← c .before .before .plain .ensures, c .enum-told .given .1)
 
+-- the number that was read, and its field's largest value
+abbrev value : tie.After-number → ℕ
+value c = c .number .given .0 .0
+
+abbrev largest : tie.After-number → ℕ
+largest c = c .before .before .before .before .args .largest
+
 returns-2 : tie.Need-returns-2
 unfolding numberAt
-returns-2 c = rw (← c .before .before .before .before .plain .ensures, c .before .before .number .given .1, le-leb (c .before .before .number .given .0 .0) (c .before .before .before .before .before .before .args .largest) (omega (arith, c .if1 .taken)))
+returns-2 c =
+    let n = c .before .before in
+    rw (← n .before .before .plain .ensures, n .number .given .1, le-leb (value n) (largest n) (omega (arith, c .if1 .taken)))
 
 returns-3 : tie.Need-returns-3
 unfolding numberAt
-returns-3 c = rw (← c .before .before .before .before .plain .ensures, c .before .before .number .given .1, lt-leb (c .before .before .number .given .0 .0) (c .before .before .before .before .before .before .args .largest) (omega (arith, c .if1 .left)))
+returns-3 c =
+    let n = c .before .before in
+    rw (← n .before .before .plain .ensures, n .number .given .1, lt-leb (value n) (largest n) (omega (arith, c .if1 .left)))
 
 pub read-spec : {M : Type 1} → statement M
 read-spec =

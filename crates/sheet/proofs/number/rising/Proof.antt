@@ -1,5 +1,6 @@
 use borrow.Author.Needs.{needs}
 use native.Mathlib.Omega.{arith}
+use Prim.Native.Nat.{ℕ}
 use borrow.Author.Tests.{lt-ltb, le-ltb}
 use Rattle.sheet.specs.Number.{risingAt}
 use Rattle.sheet.proofs.number.rising.Statement.{statement}
@@ -18,13 +19,24 @@ returns : tie.Need-returns
 unfolding risingAt
 returns c = rw (← c .before .before .read .ensures, c .enum-told .given .1)
 
+-- the number that was read, and the least that rises
+abbrev value : tie.After-number → ℕ
+value c = c .number .given .0 .0
+
+abbrev floor : tie.After-number → ℕ
+floor c = c .before .before .before .before .args .floor
+
 returns-2 : tie.Need-returns-2
 unfolding risingAt
-returns-2 c = rw (← c .before .before .before .before .read .ensures, c .before .before .number .given .1, lt-ltb (c .before .before .number .given .0 .0) (c .before .before .before .before .before .before .args .floor) (omega (arith, c .if1 .taken)))
+returns-2 c =
+    let n = c .before .before in
+    rw (← n .before .before .read .ensures, n .number .given .1, lt-ltb (value n) (floor n) (omega (arith, c .if1 .taken)))
 
 returns-3 : tie.Need-returns-3
 unfolding risingAt
-returns-3 c = rw (← c .before .before .before .before .read .ensures, c .before .before .number .given .1, le-ltb (c .before .before .number .given .0 .0) (c .before .before .before .before .before .before .args .floor) (omega (arith, c .if1 .left)))
+returns-3 c =
+    let n = c .before .before in
+    rw (← n .before .before .read .ensures, n .number .given .1, le-ltb (value n) (floor n) (omega (arith, c .if1 .left)))
 
 pub rising-spec : {M : Type 1} → statement M
 rising-spec =

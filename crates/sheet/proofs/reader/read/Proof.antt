@@ -13,7 +13,9 @@ entries-requires c κs = search needs
 
 returns : tie.Need-returns
 unfolding sheetAt tableAt
-returns c = c .entries .ensures ∙ ap (λ g. handed (onward g (entriesAt (c .before .before .before .before .args .sheet .now)))) (c .before .before .head-at .ensures)
+returns c =
+    let head = c .before .before in
+    c .entries .ensures ∙ ap (λ g. handed (onward g (entriesAt (head .before .before .args .sheet .now)))) (head .head-at .ensures)
 
 pub read-spec : {M : Type 1} → statement M
 read-spec = tie.close (tie.spec head-at-requires entries-requires returns)
