@@ -1,0 +1,3 @@
+pub mod Truth
+pub mod Refusals
+pub mod Events

@@ -1,0 +1,4 @@
+pub mod State
+pub mod Waiting
+pub mod Tests
+pub mod Parts
