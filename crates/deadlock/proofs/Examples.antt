@@ -9,7 +9,7 @@ use Rattle.sets.specs.Set.{Has}
 use Rattle.sets.proofs.Members.{none-has}
 use Rattle.deadlock.specs.Walk.{Row, NamedBy}
 use Rattle.deadlock.specs.Ring.{Ring, Comes, nobody}
-use Rattle.deadlock.specs.Steps.{stepOf, goOf, lowOf, onceOf}
+use Rattle.deadlock.specs.Parts.{stepOf, goOf, lowOf, onceOf}
 use Rattle.deadlock.proofs.Found.{places}
 use Rattle.deadlock.proofs.Reached.{ringFrom}
 use Rattle.deadlock.proofs.Twins.{clear, namedOf, namedOf-named, ringOf, nextsOf, rows-ring}

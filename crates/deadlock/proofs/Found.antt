@@ -42,7 +42,8 @@ module _ (Named : ℕ → Type 0) (Edge : ℕ → ℕ → Type 0) (w : ℕ → �
       rw z at (always Named Edge w a i p some back (λ t. w (i + b) ≤ t) lowest (b + d))
 
   -- from there to where it is first back
-  abbrev turned : (q : ℕ) → 0 < q → w (i + b + q) ≡ w (i + b) → ((j : ℕ) → j < q → (0 < j) × (w (i + b + j) ≡ w (i + b)) → ⊥) → Ring Named Edge (places w (i + b) q)
+  abbrev turned : (q : ℕ) → 0 < q → w (i + b + q) ≡ w (i + b) → ((j : ℕ) → j < q → (0 < j) × (w (i + b + j) ≡ w (i + b)) → ⊥)
+      → Ring Named Edge (places w (i + b) q)
   turned q pos home first =
       let len = length-places w (i + b) q in
       record {

@@ -14,7 +14,7 @@ use Rattle.sets.proofs.Members.{has-lt, none-has}
 use Rattle.sets.proofs.Sizes.{size-le}
 use Rattle.deadlock.specs.declared.ring.Round.{Round}
 use Rattle.deadlock.specs.Ring.{RingWalk, Ring, DeadEnd, Comes, nobody, round, stops, RingIn, Next}
-use Rattle.deadlock.specs.Steps.{goOf, lowOf, onceOf, Filled}
+use Rattle.deadlock.specs.Parts.{goOf, lowOf, onceOf, Filled}
 use Rattle.deadlock.proofs.Rings.{walk-one, repeats, again, ring-low, ring-short}
 use Rattle.deadlock.proofs.Found.{Found, walk-ring}
 use Rattle.deadlock.proofs.Stepping.{step-in, step-is, go-add, go-suc, go-before, low-le, low-all, low-is, once-is}
@@ -61,7 +61,8 @@ module _ (next : List ℕ) (m : ℕ) (fits : m < 2 ^ 32) (s : ℕ) (start : Lowe
             let d = k - j in
             let a : j + d ≡ k = omega arith in
             let b : i + d ≡ k - (j - i) = omega arith in
-            let c : place k ≡ place (k - (j - i)) = ap place (sym a) ∙ go-add next m s j d ∙ ap (λ t. goOf next m t d) (sym e) ∙ sym (go-add next m s i d) ∙ ap place b in
+            let back = go-add next m s j d ∙ ap (λ t. goOf next m t d) (sym e) ∙ sym (go-add next m s i d) in
+            let c : place k ≡ place (k - (j - i)) = ap place (sym a) ∙ back ∙ ap place b in
             rw c (f (omega arith))
 
     forever : (k : ℕ) → place k < 32
@@ -152,7 +153,10 @@ module _ (next : List ℕ) (m : ℕ) (fits : m < 2 ^ 32) (s : ℕ) (start : Lowe
             (λ i h l e. let z = x .lowest i h l in let y = sym (goes i) ∙ e ∙ home in omega arith)
 
         is : onceOf next m low low 32 ≡ list
-        is = ext-getD 0 (onceOf next m low low 32) list (once .0) (λ i l. let e = once .0 in let q : i < length list = omega arith in once .1 i q ∙ goes i ∙ sym (x .here i q))
+        is = ext-getD 0 (onceOf next m low low 32) list (once .0) (λ i l. at i (let e = once .0 in omega arith))
+          where
+            at : (i : ℕ) → i < length list → getD (onceOf next m low low 32) i 0 ≡ getD list i 0
+            at i q = once .1 i q ∙ goes i ∙ sym (x .here i q)
 
   -- ---- or it stops
   module _ (some : 0 < m) (stopped : 32 ≤ late) where

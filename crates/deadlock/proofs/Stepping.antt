@@ -1,4 +1,4 @@
--- Laws of how the code goes round (specs/Steps.antt).
+-- Laws of how the code goes round (specs/Parts.antt).
 use mathlib.Core.Path.{_≡_, refl, ap, _∙_}
 use mathlib.Core.Logic.{_⊎_, inl, inr}
 use mathlib.Core.List.{List, [], _∷_}
@@ -10,7 +10,7 @@ use borrow.Author.Tests.{lt-ltb, le-ltb, eq-eqb, ne-eqb}
 use Rattle.sets.specs.Set.{bit, Has}
 use Rattle.sets.proofs.Members.{has-dec, has-lt}
 use Rattle.deadlock.specs.Ring.{Step, Next}
-use Rattle.deadlock.specs.Steps.{stepOf, goOf, lowOf, onceOf}
+use Rattle.deadlock.specs.Parts.{stepOf, goOf, lowOf, onceOf}
 
 module _ (next : List ℕ) (m : ℕ) where
   -- ---- one step
@@ -114,7 +114,8 @@ module _ (next : List ℕ) (m : ℕ) where
       let q : onceOf next m t low (suc k) ≡ t ∷ [] = rw (eq-eqb (stepOf next m t) low e) refl in
       (ap length q, λ i l. let z : i ≡ 0 = omega arith in rw z (ap (λ r. getD r 0 0) q))
   once-is (suc k) t low (suc (suc p)) a b e f =
-      let q : onceOf next m t low (suc k) ≡ t ∷ onceOf next m (stepOf next m t) low k = rw (ne-eqb (stepOf next m t) low (f 1 (omega arith) (omega arith))) refl in
+      let n = f 1 (omega arith) (omega arith) in
+      let q : onceOf next m t low (suc k) ≡ t ∷ onceOf next m (stepOf next m t) low k = rw (ne-eqb (stepOf next m t) low n) refl in
       let r = once-is k (stepOf next m t) low (suc p) (omega arith) (omega arith) e (λ i h l. f (suc i) (omega arith) (omega arith)) in
       (ap length q ∙ ap suc (r .0), λ i l. ap (λ r. getD r i 0) q ∙ at (r .1) i l)
     where

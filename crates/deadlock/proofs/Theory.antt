@@ -122,3 +122,29 @@ module _ {Event : Type 0} (Blocked Impedes Blocked′ Impedes′ : ℕ → Event
   -- stuck tasks stay stuck
   pub frame-stuck : Frame → (t : ℕ) → Stuck Blocked Impedes t → Stuck Blocked′ Impedes′ t
   frame-stuck k t s = record { set = s .set; deadlocked = frame-deadlocked k (s .set) (s .deadlocked); holds = s .holds }
+
+  -- apart from task a, nobody is newly blocked and nobody newly impedes
+  pub record ApartFrom (a : ℕ) : Type 0 where
+    pub blocked : (t : ℕ) (e : Event) → (t ≡ a → ⊥) → Blocked′ t e → Blocked t e
+    pub impedes : (u : ℕ) (e : Event) → (u ≡ a → ⊥) → Impedes′ u e → Impedes u e
+
+  -- so if that one is not stuck then, nobody is newly stuck
+  pub not-newly : (a : ℕ) → ApartFrom a → (Stuck Blocked′ Impedes′ a → ⊥) → (t : ℕ) → Stuck Blocked′ Impedes′ t
+      → Stuck Blocked Impedes t
+  not-newly a apart free t s = record {
+    set = s .set;
+    deadlocked = record { member = s .deadlocked .member; some = s .deadlocked .some; each = λ u h. was u h (s .deadlocked .each u h) };
+    holds = s .holds;
+  }
+    where
+      other : (u : ℕ) → s .set u → u ≡ a → ⊥
+      other u h e = free (record { set = s .set; deadlocked = s .deadlocked; holds = subst (s .set) e h })
+
+      was : (u : ℕ) → s .set u → Held Blocked′ Impedes′ (s .set) u → Held Blocked Impedes (s .set) u
+      was u h k = record {
+        event = k .event;
+        waits = apart .blocked u (k .event) (other u h) (k .waits);
+        by = k .by;
+        inside = k .inside;
+        impedes = apart .impedes (k .by) (k .event) (other (k .by) (k .inside)) (k .impedes);
+      }

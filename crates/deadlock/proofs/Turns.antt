@@ -7,7 +7,7 @@ use native.Mathlib.Omega.{arith}
 use lib.ListN.{length, replicate, set, length-append}
 use lib.Seq.{set-at, append-snoc}
 use borrow.Author.Tests.{eq-eqb, ne-eqb}
-use Rattle.deadlock.specs.Steps.{stepOf, goOf, lowOf, onceOf, Filled}
+use Rattle.deadlock.specs.Parts.{stepOf, goOf, lowOf, onceOf, Filled}
 
 module _ (next : List ℕ) (m : ℕ) where
   left : (i : ℕ) → i < 32 → 32 - i ≡ suc (32 - (i + 1))
@@ -44,14 +44,16 @@ module _ (next : List ℕ) (m : ℕ) where
   pub turn-start : (low : ℕ) → low ≤ 32 → Turning low (replicate 32 255) low 0
   turn-start low l = record { near = omega arith; small = l; front = []; count = refl; all = refl; places = refl }
 
-  filled : (ring tasks : List ℕ) (n : ℕ) → length ring ≡ n → tasks ≡ ring ++ replicate (32 - n) 255 → Filled ring (record { closed = true; length = n; tasks = tasks })
+  filled : (ring tasks : List ℕ) (n : ℕ) → length ring ≡ n → tasks ≡ ring ++ replicate (32 - n) 255
+      → Filled ring (record { closed = true; length = n; tasks = tasks })
   filled ring tasks n e p = record { closed = refl; long = sym e; places = rw e p }
 
   module _ (low : ℕ) (tasks : List ℕ) (task i : ℕ) (g : Turning low tasks task i) (l : i < 32) (r : ℕ) (e : r ≡ stepOf next m task) where
     written : set tasks i task ≡ g .front ++ (task ∷ []) ++ replicate (32 - (i + 1)) 255
     written =
-        let p : tasks ≡ g .front ++ 255 ∷ replicate (32 - (i + 1)) 255 = rw (left i l) at (g .places) in
-        ap (λ x. set x i task) p ∙ set-at (g .front) 255 (replicate (32 - (i + 1)) 255) task i (g .count) ∙ sym (append-snoc (g .front) task (replicate (32 - (i + 1)) 255))
+        let rest = replicate {A = ℕ} (32 - (i + 1)) 255 in
+        let p : tasks ≡ g .front ++ 255 ∷ rest = rw (left i l) at (g .places) in
+        ap (λ x. set x i task) p ∙ set-at (g .front) 255 rest task i (g .count) ∙ sym (append-snoc (g .front) task rest)
 
     longer : length (g .front ++ (task ∷ [])) ≡ i + 1
     longer = let c = g .count in simp length-append (omega arith)
@@ -75,7 +77,8 @@ module _ (next : List ℕ) (m : ℕ) where
         let q : onceOf next m task low (32 - i) ≡ task ∷ [] = rw (left i l, ← e, eq-eqb r low b) refl in
         rw (g .all, q) (filled (g .front ++ (task ∷ [])) (set tasks i task) (i + 1) longer written)
 
-  pub turn-all : (low : ℕ) (tasks : List ℕ) (task : ℕ) → Turning low tasks task 32 → Filled (onceOf next m low low 32) (record { closed = true; length = 32; tasks = tasks })
+  pub turn-all : (low : ℕ) (tasks : List ℕ) (task : ℕ) → Turning low tasks task 32
+      → Filled (onceOf next m low low 32) (record { closed = true; length = 32; tasks = tasks })
   unfolding onceOf
   turn-all low tasks task g =
       let q : onceOf next m low low 32 ≡ g .front = g .all ∙ append-nil (g .front) in

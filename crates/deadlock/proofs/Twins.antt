@@ -16,7 +16,7 @@ use Rattle.sets.proofs.Members.{has-lt, has-pos, and-iff, without-taken, taken-
 use Rattle.sets.proofs.Least.{least-along, trailing-has, trailing-least, trailing-lowest}
 use Rattle.deadlock.specs.Walk.{Row, NamedBy}
 use Rattle.deadlock.specs.Ring.{Step, Ring, Next}
-use Rattle.deadlock.specs.Steps.{goOf}
+use Rattle.deadlock.specs.Parts.{goOf}
 use Rattle.deadlock.proofs.Clearing.{Clearing, named-closed, clear-pass, clear-done, rows-start, rows-drop, rows-keep}
 use Rattle.deadlock.proofs.Found.{places, getD-places}
 use Rattle.deadlock.proofs.Stepping.{step-in, go-suc}
@@ -104,8 +104,8 @@ module _ (rows : List ℕ) (m : ℕ) (f : m < 2 ^ 32) (named : NamedBy (Row rows
       let both = and-iff (getD rows t 0) m in
       let some = has-pos _ (c .0) (both (c .0) .1 (c .2 .1, c .1)) in
       let le = and-le-r (getD rows t 0) m in
-      rw (nexts-at rows m t l)
-      (least-along (λ v q. let b = both v .0 q in (b .1, (l, b .0))) (λ v q. both v .1 (q .1 .1, q .0)) (trailing-least 32 (bitAnd (getD rows t 0) m) (omega arith) some))
+      let low = trailing-least 32 (bitAnd (getD rows t 0) m) (omega arith) some in
+      rw (nexts-at rows m t l) (least-along (λ v q. let b = both v .0 q in (b .1, (l, b .0))) (λ v q. both v .1 (q .1 .1, q .0)) low)
 
   pub rows-ring : 0 < m → Ring (Has m) (Row rows) (ringOf (nextsOf rows m) m)
   rows-ring p =

@@ -1,4 +1,4 @@
 pub mod Walk
 pub mod Waiting
 pub mod Ring
-pub mod Steps
+pub mod Parts

@@ -2,7 +2,7 @@ ghost use mathlib.Core.Path.{_≡_};
 ghost use Prim.Native.Nat.{_≤_, min};
 ghost use Rattle.sets.specs.Set.{Has};
 ghost use Rattle.deadlock.specs.Ring.{Next, RingIn};
-ghost use Rattle.deadlock.specs.Steps.{stepOf, goOf, lowOf, onceOf, Filled};
+ghost use Rattle.deadlock.specs.Parts.{stepOf, goOf, lowOf, onceOf, Filled};
 
 // What the ring walk comes to: whether it always found a task to step to, and the ring in 32 places filled up with 255.
 pub struct Round {

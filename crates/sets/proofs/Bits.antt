@@ -33,7 +33,9 @@ bit-high (suc n) m (suc k) h l = bit-suc m k ∙ bit-high n (m / 2) k (omega (ar
 pub bit-ext : (n a b : ℕ) → a < 2 ^ n → b < 2 ^ n → ((k : ℕ) → k < n → bit a k ≡ bit b k) → a ≡ b
 bit-ext zero a b ha hb e = omega arith
 bit-ext (suc n) a b ha hb e =
-    let r = bit-ext n (a / 2) (b / 2) (omega (arith, pow-suc 2 n)) (omega (arith, pow-suc 2 n)) (λ k l. sym (bit-suc a k) ∙ e (suc k) (omega arith) ∙ bit-suc b k) in
+    let r =
+    bit-ext n (a / 2) (b / 2) (omega (arith, pow-suc 2 n)) (omega (arith, pow-suc 2 n))
+    (λ k l. sym (bit-suc a k) ∙ e (suc k) (omega arith) ∙ bit-suc b k) in
     let z = e 0 (omega arith) in
     omega arith
 
@@ -70,7 +72,9 @@ pub bit-power-other : (k j : ℕ) → (j ≡ k → ⊥) → bit (2 ^ k) j ≡ 0
 bit-power-other zero zero n = absurd (n refl)
 bit-power-other zero (suc j) n = bit-suc 1 j ∙ bit-high zero 0 j (omega arith) (omega arith)
 bit-power-other (suc k) zero n = rw pow-suc (omega arith)
-bit-power-other (suc k) (suc j) n = let d : 2 ^ k * 2 / 2 ≡ 2 ^ k = omega arith in bit-suc (2 ^ suc k) j ∙ rw (pow-suc, d) (bit-power-other k j (λ e. n (ap suc e)))
+bit-power-other (suc k) (suc j) n =
+    let d : 2 ^ k * 2 / 2 ≡ 2 ^ k = omega arith in
+    bit-suc (2 ^ suc k) j ∙ rw (pow-suc, d) (bit-power-other k j (λ e. n (ap suc e)))
 
 -- a number with bit k is no less than 2 ^ k
 pub bit-le : (m k : ℕ) → bit m k ≡ 1 → 2 ^ k ≤ m

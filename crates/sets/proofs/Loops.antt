@@ -1,11 +1,23 @@
 -- Loops over a set that take the lowest task out of what is left, and loops that put a set together: what each knows, its start, its steps, its end.
 use mathlib.Core.Path.{_≡_, sym, subst}
+use mathlib.Core.Bool.{Bool, true}
 use mathlib.Core.Logic.{_↔_, _⊎_, inl, inr, ⊎-elim}
-use Prim.Native.Nat.{ℕ, _+_, _<_}
+use Prim.Native.Nat.{ℕ, _+_, _^_, _<_}
 use native.Mathlib.Decide.{ℕ-discrete}
 use native.Mathlib.Omega.{arith}
-use Rattle.sets.specs.Set.{Has}
-use Rattle.sets.proofs.Members.{Put, Taken, none-has, taken-out}
+use Rattle.sets.specs.Set.{Has, LowestOf}
+use Rattle.sets.proofs.Members.{Kept, Put, Taken, has-lt, none-has, taken-lt, taken-out}
+
+-- ---- the lowest of what is left: it is there, it is a task's number, and without it less is left
+module _ {m t : ℕ} (fits : m < 2 ^ 32) (some : m ≡ 0 → ⊥) (low : LowestOf m t) where
+  pub lowest-has : Has m t
+  lowest-has = low .some (omega arith) .holds
+
+  pub lowest-lt : t < 32
+  lowest-lt = has-lt 32 m t fits lowest-has
+
+  pub lowest-less : (r : ℕ) → r < 2 ^ 32 → Taken m t r → r < m
+  lowest-less r f p = taken-lt 32 m t r f lowest-has p
 
 module _ (P : ℕ → Type 0) where
   -- ---- keep those with P: `kept` has those of `among` with P, and of the rest only what is `left` to look at
@@ -17,14 +29,20 @@ module _ (P : ℕ → Type 0) where
   pub sift-start : (among : ℕ) → Sifted among among among
   sift-start among = record { inside = λ k h. h; keeps = λ k h p. h; seen = λ k h n. absurd (n h) }
 
-  module _ (among kept left t rest : ℕ) (g : Sifted among kept left) (taken : Taken left t rest) where
-    -- `less` is `kept`, without t unless P holds of it
-    pub sift-more : (less : ℕ) → ((k : ℕ) → Has less k ↔ (Has kept k × (k ≡ t → P t))) → Sifted among less rest
-    sift-more less out = record {
-      inside = λ k h. g .inside k (out k .0 h .0);
-      keeps = λ k h p. out k .1 (g .keeps k h p, λ e. subst P e p);
-      seen = λ k h n. ⊎-elim (λ e. subst P (sym e) (out k .0 h .1 e)) (g .seen k (out k .0 h .0)) (taken-out left t rest k taken n);
-    }
+  -- one task looked at: it stays exactly where it has P, as a test says
+  pub sift-if : {among kept left t rest r : ℕ} {b : Bool} → Sifted among kept left → Taken left t rest → ((b ≡ true) ↔ P t)
+      → Kept kept t b r → Sifted among r rest
+  sift-if {among} {kept} {left} {t} {rest} {r} {b} g taken iff out = record {
+    inside = λ k h. g .inside k (out k .0 h .0);
+    keeps = λ k h p. out k .1 (g .keeps k h p, λ e. iff .1 (subst P e p));
+    seen = λ k h n.
+        ⊎-elim (λ e. subst P (sym e) (iff .0 (out k .0 h .1 e))) (g .seen k (out k .0 h .0)) (taken-out left t rest k taken n);
+  }
+
+  -- what is left may be cut down to what is kept: who was dropped needs no look
+  pub sift-kept : {among kept left both : ℕ} → Sifted among kept left → ((k : ℕ) → Has both k ↔ (Has left k × Has kept k))
+      → Sifted among kept both
+  sift-kept g cut = record { inside = g .inside; keeps = g .keeps; seen = λ k h n. g .seen k h (λ l. n (cut k .1 (l, h))) }
 
   pub sift-done : (among kept : ℕ) → Sifted among kept 0 → (k : ℕ) → Has kept k ↔ (Has among k × P k)
   sift-done among kept g k = (λ h. (g .inside k h, g .seen k h (none-has k)), λ h. g .keeps k (h .0) (h .1))

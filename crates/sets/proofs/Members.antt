@@ -1,5 +1,6 @@
 -- Sets of tasks by their members.
 use mathlib.Core.Path.{_≡_, refl, sym, _∙_}
+use mathlib.Core.Bool.{Bool, true}
 use mathlib.Core.Logic.{_↔_, _⊎_, inl, inr}
 use Prim.Native.Nat.{ℕ, zero, suc, _+_, _-_, _/_, _*_, _^_, _≤_, _<_, min}
 use native.Mathlib.Nat.{pow-suc}
@@ -96,7 +97,8 @@ less-iff a b k =
       λ h. go e x y h (has-dec b k),
     )
   where
-    go : bit (a - bitAnd a b) k + min (bit a k) (bit b k) ≡ bit a k → bit a k < 2 → bit b k < 2 → Has a k × (Has b k → ⊥) → Dec (Has b k) → Has (a - bitAnd a b) k
+    go : bit (a - bitAnd a b) k + min (bit a k) (bit b k) ≡ bit a k → bit a k < 2 → bit b k < 2 → Has a k × (Has b k → ⊥) → Dec (Has b k)
+        → Has (a - bitAnd a b) k
     go e x y h (yes p) = absurd (h .1 p)
     go e x y h (no p) = omega arith
 
@@ -107,12 +109,15 @@ power-iff t k = (λ h. go h (ℕ-discrete k t), λ e. rw e (bit-power t))
     go h (yes e) = e
     go h (no e) = let z = bit-power-other t k e in absurd (omega arith)
 
--- ---- r is m with t put into it; r is m with t taken out, which is what `take` promises
+-- ---- r is m with t put into it; with t taken out, which is what `take` promises; without t unless it stays, which is what `kept` does
 abbrev pub Put : ℕ → ℕ → ℕ → Type 0
 Put m t r = (k : ℕ) → Has r k ↔ (Has m k ⊎ ((k < 32) × (k ≡ t)))
 
 abbrev pub Taken : ℕ → ℕ → ℕ → Type 0
 Taken m t r = (k : ℕ) → Has r k ↔ (Has m k × (k ≡ t → ⊥))
+
+abbrev pub Kept : ℕ → ℕ → Bool → ℕ → Type 0
+Kept m t stays r = (k : ℕ) → Has r k ↔ (Has m k × (k ≡ t → stays ≡ true))
 
 -- the set without t, as a number
 pub without-taken : (m t : ℕ) → Taken m t (m - bitAnd m (2 ^ t))

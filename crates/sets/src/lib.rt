@@ -43,6 +43,13 @@ pub fn take(set: u32, task: usize) -> u32
     less(set, only(task))
 }
 
+// The set without the task, unless it stays.
+pub fn kept(set: u32, task: usize, stays: bool) -> u32
+    ensures { λ r. ⌜ ((k : ℕ) → Has r k ↔ (Has set k × (k ≡ task → stays ≡ true))) ⌝ }
+{
+    if stays { set } else { take(set, task) }
+}
+
 // How many tasks the set has.
 pub fn size(set: u32) -> u32
     ensures { λ r. ⌜ r ≡ size set 32 ⌝ }

@@ -16,7 +16,9 @@ returns : tie.Need-returns
 returns c = (eqb-true _ _, eq-eqb _ _)
 
 returns-2 : tie.Need-returns-2
-returns-2 c = (λ e. absurd (false≢true e), λ h. let l = has-lt 32 (c .before .args .set) (c .before .args .task) (c .before .fits .set .fits) h in absurd (omega arith))
+returns-2 c =
+    let s = c .before in
+    (λ e. absurd (false≢true e), λ h. let l = has-lt 32 (s .args .set) (s .args .task) (s .fits .set .fits) h in absurd (omega arith))
 
 pub has-spec : {M : Type 1} → statement M
 has-spec = tie.close (tie.spec cast-result shr-result returns returns-2)

@@ -33,20 +33,24 @@ common-requires c κs = tt
 take-requires : tie.Need-take-requires Inv-loop μ-loop
 take-requires c κs = tt
 
+-- from where the edges of `task` were looked at back to the loop's head
+abbrev head : tie.After-common Inv-loop μ-loop → tie.At-loop Inv-loop μ-loop
+head c = c .before .before .before .before
+
 loop-less : tie.Need-loop-less Inv-loop μ-loop
 loop-less c =
-    let l = c .before .before .before .before .before .before .loop .left in
-    let t = c .before .before .before .before .before .before .loop .task in
-    let h = c .before .before .before .before .has .ensures .0 (c .before .before .before .if1 .taken) in
-    let z = taken-lt 32 l t (c .take .result) (c .take .ok) h (c .take .ensures) in
+    let at = c .before .before in
+    let l = head at .loop in
+    let h = at .before .before .has .ensures .0 (at .before .if1 .taken) in
+    let z = taken-lt 32 (l .left) (l .task) (c .take .result) (c .take .ok) h (c .take .ensures) in
     omega arith
 
 loop-again : tie.Need-loop-again Inv-loop μ-loop
 loop-again c =
-    let l = c .before .before .before .before .before .before .loop in
+    let at = c .before .before in
+    let l = head at .loop in
     let h : l .task < 32 = omega arith in
-    rows-drop (c .before .before .before .before .before .before .before .args .t1) (l .left) (l .task) _ (l .inv) h (c .before .before .common .ensures) (c .before .if2 .taken) _
-    (c .take .ok) (c .take .ensures)
+    rows-drop (head at .before .args .t1) (l .left) (l .task) _ (l .inv) h (at .common .ensures) (c .before .if2 .taken) _ (c .take .ok) (c .take .ensures)
 
 add-task : tie.Need-add-task Inv-loop μ-loop
 add-task c = omega arith
@@ -56,9 +60,10 @@ loop-less-2 c = omega arith
 
 loop-again-2 : tie.Need-loop-again-2 Inv-loop μ-loop
 loop-again-2 c =
-    let l = c .before .before .before .before .before .loop in
+    let at = c .before in
+    let l = head at .loop in
     let h : l .task < 32 = omega arith in
-    rows-keep (c .before .before .before .before .before .before .args .t1) (l .left) (l .task) _ (l .inv) h (c .before .common .ensures) (c .before .common .ok) (c .if2 .left)
+    rows-keep (head at .before .args .t1) (l .left) (l .task) _ (l .inv) h (at .common .ensures) (at .common .ok) (c .if2 .left)
 
 add-task-2 : tie.Need-add-task-2 Inv-loop μ-loop
 add-task-2 c = omega arith
@@ -70,7 +75,8 @@ loop-again-3 : tie.Need-loop-again-3 Inv-loop μ-loop
 loop-again-3 c =
     let l = c .before .before .before .loop in
     let h : l .task < 32 = omega arith in
-    clear-pass (Row (c .before .before .before .before .args .t1)) (l .left) (l .task) (l .inv) h (λ g. absurd (true≢false (sym (c .before .has .ensures .1 g) ∙ c .if1 .left)))
+    let rows = c .before .before .before .before .args .t1 in
+    clear-pass (Row rows) (l .left) (l .task) (l .inv) h (λ g. absurd (true≢false (sym (c .before .has .ensures .1 g) ∙ c .if1 .left)))
 
 returns : tie.Need-returns Inv-loop μ-loop
 returns c =

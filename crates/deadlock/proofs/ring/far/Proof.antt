@@ -2,7 +2,7 @@
 use mathlib.Core.Path.{_≡_, refl, sym, _∙_}
 use Prim.Native.Nat.{_-_, _≤_, _<_}
 use native.Mathlib.Omega.{arith}
-use Rattle.deadlock.specs.Steps.{goOf}
+use Rattle.deadlock.specs.Parts.{goOf}
 use Rattle.deadlock.proofs.Turns.{go-turn, go-end}
 use Rattle.deadlock.proofs.ring.far.Statement.{statement}
 use Rattle.deadlock.proofs.ring.far.Tie as tie

@@ -2,7 +2,7 @@
 use mathlib.Core.Path.{_≡_, refl, sym, _∙_}
 use Prim.Native.Nat.{_-_, _≤_}
 use native.Mathlib.Omega.{arith}
-use Rattle.deadlock.specs.Steps.{lowOf}
+use Rattle.deadlock.specs.Parts.{lowOf}
 use Rattle.deadlock.proofs.Turns.{low-turn, low-end}
 use Rattle.deadlock.proofs.ring.lowest_on.Statement.{statement}
 use Rattle.deadlock.proofs.ring.lowest_on.Tie as tie
@@ -30,10 +30,11 @@ loop-less c = omega arith
 
 loop-again : tie.Need-loop-again Inv-loop μ-loop
 loop-again c =
-    let s = c .before .before .before .before in
-    let l = c .before .before .before .loop in (
+    let s = c .before .before .before .before .args in
+    let l = c .before .before .before .loop in
+    let h = c .before .before .loop-test .taken in (
       omega arith,
-      l .inv .1 ∙ low-turn (s .args .next) (s .args .named) (l .task) (l .low) (l .more) _ _ (c .before .before .loop-test .taken) (c .before .after .ensures) (c .lesser .ensures),
+      l .inv .1 ∙ low-turn (s .next) (s .named) (l .task) (l .low) (l .more) _ _ h (c .before .after .ensures) (c .lesser .ensures),
     )
 
 returns : tie.Need-returns Inv-loop μ-loop

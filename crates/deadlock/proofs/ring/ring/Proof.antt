@@ -1,6 +1,7 @@
-use native.Mathlib.Omega.{arith}
+-- Where the walk goes on for 32 steps it is in the ring, and goes round from its lowest task; else it stops.
 use mathlib.Core.List.{[]}
 use mathlib.Core.Path.{refl}
+use native.Mathlib.Omega.{arith}
 use Rattle.deadlock.proofs.Stepping.{low-le}
 use Rattle.deadlock.proofs.Reached.{stops-comes, round-ring}
 use Rattle.deadlock.proofs.ring.ring.Statement.{statement}
@@ -24,8 +25,9 @@ once-requires c κs =
 
 returns : tie.Need-returns
 returns c =
-    let s = c .before .before .before .before .before in
-    round-ring (s .args .next) (s .args .named) (s .fits .named .fits) _ (c .before .before .before .before .lowest .ensures) _ _ (c .before .before .before .far .ensures)
+    let far = c .before .before .before in
+    let s = far .before .before in
+    round-ring (s .args .next) (s .args .named) (s .fits .named .fits) _ (far .before .lowest .ensures) _ _ (far .far .ensures)
     (c .before .before .if1 .taken) (c .before .lowest-on .ensures) _ (c .once .ensures)
 
 returns-2 : tie.Need-returns-2

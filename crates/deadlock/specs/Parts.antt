@@ -1,4 +1,5 @@
--- How the code goes round; nobody need believe this file: only private functions promise it, and proofs/Reached.antt shows that it comes to the ring.
+-- What the parts of the code hand each other; nobody need believe this file.
+-- Only private functions promise how the code goes round, and proofs/Reached.antt shows that it comes to the ring.
 use mathlib.Core.Path.{_≡_}
 use mathlib.Core.Bool.{true, cond}
 use mathlib.Core.List.{List, [], _∷_, _++_}
