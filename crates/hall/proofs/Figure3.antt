@@ -7,27 +7,30 @@ use mathlib.Core.Option.{some, none, Option·some-injective}
 use Prim.Native.Nat.{ℕ, _+_, _<_, _≤_}
 use native.Mathlib.Omega.{arith}
 use lib.Dec.{lit<}
+use Rattle.answers.specs.Answers.{waitPassed, nowBlocked}
+use Rattle.states.specs.State.{largestPhase, isFree, isLive, isBlocked, event}
+use Rattle.states.specs.Waiting.{Awaited}
+use Rattle.states.specs.declared.state.State.the-variants.{Running}
+use Rattle.states.proofs.Events.{is-free, is-awake, not-free}
+use Rattle.states.proofs.Truth.{clash}
 use Rattle.hall.specs.Additions.{Runs, LowestFree, LowestUnopened, Unused, without, Behind, BehindOwn}
-use Rattle.hall.specs.Answers.{waitPassed, nowBlocked}
-use Rattle.hall.specs.Calls.{callOf}
+use Rattle.hall.specs.Calls.{openTaskOf, endTaskOf, openPhaserOf, closePhaserOf, admitOf, leaveOf, arriveOf, waitOf, waitAtOf, releaseOf}
 use Rattle.hall.specs.Rules.{put, Phaser, PhaserMap, Await, Add, Drop, Adv, Upd, NewP, Reg, Dereg, Arrv, AwaitN, AwaitOwn, phaserOf, phasersOf}
-use Rattle.hall.specs.Sound.{Sound, soundOf}
-use Rattle.hall.specs.Table.{largestPhase, stateAt, openAt, memberAt, phaseAt, isFree, isLive, isBlocked, event, Shaped}
+use Rattle.hall.specs.Sound.{Sound}
+use Rattle.hall.specs.Parts.{soundOf}
+use Rattle.hall.specs.Table.{stateAt, openAt, memberAt, phaseAt, joined, absent, Shaped}
 use Rattle.hall.specs.Tests.{lowestFree, lowestUnopened}
-use Rattle.hall.specs.Waiting.{reachedOf, BlockedOn}
+use Rattle.hall.specs.Waiting.{BlockedOn, reachedOf}
 use Rattle.hall.specs.declared.calls.Called.{Called}
-use Rattle.hall.specs.declared.table.Event.{Event}
-use Rattle.hall.specs.declared.table.State.{State}
-use Rattle.hall.specs.declared.table.State.the-variants.{Free, Running, Blocked}
 use Rattle.hall.specs.declared.table.Table.{Table}
-use Rattle.hall.proofs.Accepted.{open-task-accepted, end-task-accepted, open-phaser-accepted, close-phaser-accepted, admit-accepted}
-use Rattle.hall.proofs.Accepted.{leave-accepted, arrive-accepted, wait-accepted, wait-at-accepted, release-accepted}
 use Rattle.hall.proofs.Changes.{Waited, unused-iff, free-lowest, unopened-lowest, open-task-changes, end-task-changes, open-phaser-changes}
 use Rattle.hall.proofs.Changes.{close-phaser-changes, admit-changes, leave-changes, arrive-changes, wait-changes, wait-at-changes}
 use Rattle.hall.proofs.Changes.{release-changes}
-use Rattle.hall.proofs.Lists.{clash, lowest-is}
+use Rattle.hall.proofs.Lists.{lowest-is}
 use Rattle.hall.proofs.Maps.{phaser-there, phaser-opens, phaser-absent, member-there, member-is, member-absent, phasers-same, phasers-moved}
 use Rattle.hall.proofs.Maps.{phasers-opened, phasers-left, phasers-closed, reached-await}
+use Rattle.hall.proofs.Rows.{row-accepted, open-task-row, Caller, end-task-row, open-phaser-row, close-phaser-row, admit-row, Member, leave-row}
+use Rattle.hall.proofs.Rows.{arrive-row, wait-row, wait-at-row, release-row}
 use Rattle.hall.proofs.Soundness.{sound-iff}
 
 -- ---- the numbers that opening gives
@@ -37,20 +40,10 @@ lowest-unopened t q e h = lowest-is (λ p. not (openAt t p)) 16 q (h .0) (ap not
 
 lowest-free : (t : Table) (k : ℕ) → LowestFree t k → lowestFree t ≡ k
 unfolding lowestFree
-lowest-free t k h = lowest-is (λ j. isFree (stateAt t j)) 32 k (h .0) (ap isFree (h .1)) (λ j l. other (stateAt t j) (h .2 j l))
-  where
-    other : (s : State) → (s ≡ Free → ⊥) → isFree s ≡ false
-    other Free n = absurd (n refl)
-    other Running n = refl
-    other (Blocked e) n = refl
+lowest-free t k h = lowest-is (λ j. isFree (stateAt t j)) 32 k (h .0) (ap isFree (h .1)) (λ j l. not-free (stateAt t j) (h .2 j l))
 
 free-is : (t : Table) → lowestFree t < 32 → LowestFree t (lowestFree t)
-free-is t l = (l, is (stateAt t (lowestFree t)) (free-lowest t .0 l), λ j m e. clash (ap isFree e) (free-lowest t .1 j m))
-  where
-    is : (s : State) → isFree s ≡ true → s ≡ Free
-    is Free e = refl
-    is Running e = absurd (clash e refl)
-    is (Blocked x) e = absurd (clash e refl)
+free-is t l = (l, is-free (stateAt t (lowestFree t)) (free-lowest t .0 l), λ j m e. clash (ap isFree e) (free-lowest t .1 j m))
 
 -- ---- a rule gives one next map
 upd-once : (φ : Phaser → Phaser → Type 0) → ((P Q R : Phaser) → φ P Q → φ P R → Q ≡ R) → (p : ℕ) (M N O : PhaserMap)
@@ -79,10 +72,13 @@ reg-once a b p M N O x y =
 abbrev pub Steps : Called → PhaserMap → Type 0
 Steps c M′ = (c .answer < 10) × (phasersOf (c .table) ≡ M′)
 
-module _ (t : Table) (z : Shaped t) (a p : ℕ) where
-  caller : soundOf t ≡ true → stateAt t a ≡ Running → Runs t a
-  caller s r = (sound-iff t .0 s, r)
+by-caller : {t : Table} {a : ℕ} → Caller t a → Runs t a
+by-caller {t} h = (sound-iff t .0 (h .sound), h .runs)
 
+as-caller : {t : Table} {a : ℕ} → Runs t a → Caller t a
+as-caller {t} x = record { sound = sound-iff t .1 (x .0); runs = x .1 }
+
+module _ (t : Table) (z : Shaped t) (a p : ℕ) where
   -- the task's phaser in the map is the table's
   member : {P : Phaser} {n : ℕ} → phasersOf t p ≡ some P → P a ≡ some n → (openAt t p ≡ true) × (memberAt t a p ≡ true) × (phaseAt t a p ≡ n)
   member {P} {n} e c =
@@ -90,65 +86,66 @@ module _ (t : Table) (z : Shaped t) (a p : ℕ) where
       let m = member-is t p a n (ap (λ (Q : Phaser). Q a) (o .1) ∙ c) in
       (o .0, m .0, m .1)
 
+  as-member : {P : Phaser} {n : ℕ} → Runs t a → phasersOf t p ≡ some P → P a ≡ some n → Member t a p
+  as-member x e c = let m = member e c in record { caller = as-caller x; opens = m .0; member = m .1 }
+
   -- 5: leave is [dereg]
-  leave-moves : (o : ℕ) → callOf t 5 a p o .answer < 10 → Dereg a p (phasersOf t) (phasersOf (callOf t 5 a p o .table))
-  leave-moves o l =
-      let h = leave-accepted t a p o .0 l in
+  leave-moves : leaveOf t a p .answer < 10 → Dereg a p (phasersOf t) (phasersOf (leaveOf t a p .table))
+  leave-moves l =
+      let h = row-accepted (leave-row t a p) .0 l in
       record {
         phaser = phaserOf t p;
         there = phaser-there t p (h .opens);
         after = put (phaserOf t p) a none;
         does = record { phase = phaseAt t a p; there = member-there t p a (h .member); next = refl };
-        next = phasers-moved t (callOf t 5 a p o .table) a p false 0 (h .opens) (leave-changes t z a p o l .reads);
+        next = phasers-moved t (leaveOf t a p .table) a p absent (h .opens) (leave-changes t z a p l .reads);
       }
 
-  pub leave-exact : (o : ℕ) (M′ : PhaserMap) → Steps (callOf t 5 a p o) M′ ↔ (Runs t a × Dereg a p (phasersOf t) M′)
-  leave-exact o M′ = (there, back)
+  pub leave-exact : (M′ : PhaserMap) → Steps (leaveOf t a p) M′ ↔ (Runs t a × Dereg a p (phasersOf t) M′)
+  leave-exact M′ = (there, back)
     where
-      there : Steps (callOf t 5 a p o) M′ → Runs t a × Dereg a p (phasersOf t) M′
-      there x = let h = leave-accepted t a p o .0 (x .0) in (caller (h .sound) (h .caller), subst (Dereg a p (phasersOf t)) (x .1) (leave-moves o (x .0)))
+      there : Steps (leaveOf t a p) M′ → Runs t a × Dereg a p (phasersOf t) M′
+      there x = let h = row-accepted (leave-row t a p) .0 (x .0) in (by-caller (h .caller), subst (Dereg a p (phasersOf t)) (x .1) (leave-moves (x .0)))
 
-      back : Runs t a × Dereg a p (phasersOf t) M′ → Steps (callOf t 5 a p o) M′
+      back : Runs t a × Dereg a p (phasersOf t) M′ → Steps (leaveOf t a p) M′
       back x =
           let r = x .1 in
-          let m = member (r .there) (r .does .there) in
-          let l = leave-accepted t a p o .1 (record { sound = sound-iff t .1 (x .0 .0); caller = x .0 .1; opens = m .0; member = m .1 }) in
-          (l, upd-once (Drop a) (drop-once a) p (phasersOf t) _ M′ (leave-moves o l) r)
+          let l = row-accepted (leave-row t a p) .1 (as-member (x .0) (r .there) (r .does .there)) in
+          (l, upd-once (Drop a) (drop-once a) p (phasersOf t) _ M′ (leave-moves l) r)
 
   -- 6: arrive is [arrv], up to phase 65,535
-  arrive-moves : (o : ℕ) → callOf t 6 a p o .answer < 10 → Arrv a p (phasersOf t) (phasersOf (callOf t 6 a p o .table))
-  arrive-moves o l =
-      let h = arrive-accepted t a p o .0 l in
+  arrive-moves : arriveOf t a p .answer < 10 → Arrv a p (phasersOf t) (phasersOf (arriveOf t a p .table))
+  arrive-moves l =
+      let h = row-accepted (arrive-row t a p) .0 l in
       record {
         phaser = phaserOf t p;
-        there = phaser-there t p (h .opens);
+        there = phaser-there t p (h .member .opens);
         after = put (phaserOf t p) a (some (phaseAt t a p + 1));
-        does = record { phase = phaseAt t a p; there = member-there t p a (h .member); next = refl };
-        next = phasers-moved t (callOf t 6 a p o .table) a p true (phaseAt t a p + 1) (h .opens) (arrive-changes t z a p o l .reads);
+        does = record { phase = phaseAt t a p; there = member-there t p a (h .member .member); next = refl };
+        next = phasers-moved t (arriveOf t a p .table) a p (joined (phaseAt t a p + 1)) (h .member .opens) (arrive-changes t z a p l .reads);
       }
 
-  pub arrive-exact : (o : ℕ) (M′ : PhaserMap)
-      → Steps (callOf t 6 a p o) M′ ↔ (Runs t a × Arrv a p (phasersOf t) M′ × (phaseAt t a p < largestPhase))
-  arrive-exact o M′ = (there, back)
+  pub arrive-exact : (M′ : PhaserMap)
+      → Steps (arriveOf t a p) M′ ↔ (Runs t a × Arrv a p (phasersOf t) M′ × (phaseAt t a p < largestPhase))
+  arrive-exact M′ = (there, back)
     where
-      there : Steps (callOf t 6 a p o) M′ → Runs t a × Arrv a p (phasersOf t) M′ × (phaseAt t a p < largestPhase)
+      there : Steps (arriveOf t a p) M′ → Runs t a × Arrv a p (phasersOf t) M′ × (phaseAt t a p < largestPhase)
       there x =
-          let h = arrive-accepted t a p o .0 (x .0) in
-          (caller (h .sound) (h .caller), subst (Arrv a p (phasersOf t)) (x .1) (arrive-moves o (x .0)), h .below)
+          let h = row-accepted (arrive-row t a p) .0 (x .0) in
+          (by-caller (h .member .caller), subst (Arrv a p (phasersOf t)) (x .1) (arrive-moves (x .0)), h .below)
 
-      back : Runs t a × Arrv a p (phasersOf t) M′ × (phaseAt t a p < largestPhase) → Steps (callOf t 6 a p o) M′
+      back : Runs t a × Arrv a p (phasersOf t) M′ × (phaseAt t a p < largestPhase) → Steps (arriveOf t a p) M′
       back x =
           let r = x .1 in
-          let m = member (r .there) (r .does .there) in
-          let l = arrive-accepted t a p o .1 (record { sound = sound-iff t .1 (x .0 .0); caller = x .0 .1; opens = m .0; member = m .1; below = x .2 }) in
-          (l, upd-once (Adv a) (adv-once a) p (phasersOf t) _ M′ (arrive-moves o l) r)
+          let l = row-accepted (arrive-row t a p) .1 (record { member = as-member (x .0) (r .there) (r .does .there); below = x .2 }) in
+          (l, upd-once (Adv a) (adv-once a) p (phasersOf t) _ M′ (arrive-moves l) r)
 
   -- 4: admit is [reg]; the narrowing is that the target runs
-  admit-moves : (b : ℕ) → callOf t 4 a p b .answer < 10 → Reg a b p (phasersOf t) (phasersOf (callOf t 4 a p b .table))
+  admit-moves : (b : ℕ) → admitOf t a p b .answer < 10 → Reg a b p (phasersOf t) (phasersOf (admitOf t a p b .table))
   admit-moves b l =
-      let h = admit-accepted t a p b .0 l in
-      let there = phaser-there t p (h .opens) in
-      let own = member-there t p a (h .member) in
+      let h = row-accepted (admit-row t a p b) .0 l in
+      let there = phaser-there t p (h .member .opens) in
+      let own = member-there t p a (h .member .member) in
       record {
         phaser = phaserOf t p;
         there = there;
@@ -166,33 +163,24 @@ module _ (t : Table) (z : Shaped t) (a p : ℕ) where
             least = omega arith;
             next = refl;
           };
-          next = phasers-moved t (callOf t 4 a p b .table) b p true (phaseAt t a p) (h .opens) (admit-changes t z a p b l .reads);
+          next = phasers-moved t (admitOf t a p b .table) b p (joined (phaseAt t a p)) (h .member .opens) (admit-changes t z a p b l .reads);
         };
       }
 
-  pub admit-exact : (b : ℕ) (M′ : PhaserMap) → Steps (callOf t 4 a p b) M′ ↔ (Runs t a × Reg a b p (phasersOf t) M′ × (stateAt t b ≡ Running))
+  pub admit-exact : (b : ℕ) (M′ : PhaserMap) → Steps (admitOf t a p b) M′ ↔ (Runs t a × Reg a b p (phasersOf t) M′ × (stateAt t b ≡ Running))
   admit-exact b M′ = (there, back)
     where
-      awake : (s : State) → isLive s ≡ true → isBlocked s ≡ false → s ≡ Running
-      awake Free x y = absurd (clash x refl)
-      awake Running x y = refl
-      awake (Blocked e) x y = absurd (clash refl y)
-
-      there : Steps (callOf t 4 a p b) M′ → Runs t a × Reg a b p (phasersOf t) M′ × (stateAt t b ≡ Running)
+      there : Steps (admitOf t a p b) M′ → Runs t a × Reg a b p (phasersOf t) M′ × (stateAt t b ≡ Running)
       there x =
-          let h = admit-accepted t a p b .0 (x .0) in
-          (caller (h .sound) (h .caller), subst (Reg a b p (phasersOf t)) (x .1) (admit-moves b (x .0)), awake (stateAt t b) (h .live) (h .awake))
+          let h = row-accepted (admit-row t a p b) .0 (x .0) in
+          (by-caller (h .member .caller), subst (Reg a b p (phasersOf t)) (x .1) (admit-moves b (x .0)), is-awake (stateAt t b) (h .live) (h .awake))
 
-      back : Runs t a × Reg a b p (phasersOf t) M′ × (stateAt t b ≡ Running) → Steps (callOf t 4 a p b) M′
+      back : Runs t a × Reg a b p (phasersOf t) M′ × (stateAt t b ≡ Running) → Steps (admitOf t a p b) M′
       back x =
           let r = x .1 in
-          let m = member (r .there) (r .caller) in
           let q = phaser-opens t p (r .does .phaser) (r .does .there) .1 in
-          let l = admit-accepted t a p b .1 (record {
-            sound = sound-iff t .1 (x .0 .0);
-            caller = x .0 .1;
-            opens = m .0;
-            member = m .1;
+          let l = row-accepted (admit-row t a p b) .1 (record {
+            member = as-member (x .0) (r .there) (r .caller);
             live = ap isLive (x .2);
             awake = ap isBlocked (x .2);
             fresh = member-absent t p b .0 (ap (λ (P : Phaser). P b) q ∙ r .does .does .fresh);
@@ -200,42 +188,42 @@ module _ (t : Table) (z : Shaped t) (a p : ℕ) where
           (l, reg-once a b p (phasersOf t) _ M′ (admit-moves b l) r)
 
   -- 2: open phaser is [new-p], at the lowest number that names no phaser
-  open-moves : (o : ℕ) → callOf t 2 a p o .answer < 10 → NewP a (lowestUnopened t) (phasersOf t) (phasersOf (callOf t 2 a p o .table))
-  open-moves o l =
-      let h = open-phaser-accepted t a p o .0 l in
+  open-moves : openPhaserOf t a .answer < 10 → NewP a (lowestUnopened t) (phasersOf t) (phasersOf (openPhaserOf t a .table))
+  open-moves l =
+      let h = row-accepted (open-phaser-row t a) .0 l in
       let e = unopened-lowest t .0 (h .unopened) in
       record {
         fresh = phaser-absent t (lowestUnopened t) .1 e;
         next =
-            phasers-opened t (callOf t 2 a p o .table) a (lowestUnopened t) 0
-            (λ j. empty (h .sound) (lowestUnopened t) e j (memberAt t j (lowestUnopened t)) refl) (open-phaser-changes t z a p o l .reads);
+            phasers-opened t (openPhaserOf t a .table) a (lowestUnopened t) (joined 0)
+            (λ j. empty (h .caller .sound) (lowestUnopened t) e j (memberAt t j (lowestUnopened t)) refl) (open-phaser-changes t z a l .reads);
       }
     where
       empty : soundOf t ≡ true → (q : ℕ) → openAt t q ≡ false → (j : ℕ) (b : Bool) → memberAt t j q ≡ b → b ≡ false
       empty s q e j true m = absurd (clash (sound-iff t .0 s .open-member j q m) e)
       empty s q e j false m = refl
 
-  pub open-phaser-exact : (o q : ℕ) (M′ : PhaserMap)
-      → (Steps (callOf t 2 a p o) M′ × (callOf t 2 a p o .value ≡ q)) ↔ (Runs t a × NewP a q (phasersOf t) M′ × LowestUnopened t q)
-  open-phaser-exact o q M′ = (there, back)
+  pub open-phaser-exact : (q : ℕ) (M′ : PhaserMap)
+      → (Steps (openPhaserOf t a) M′ × (openPhaserOf t a .value ≡ q)) ↔ (Runs t a × NewP a q (phasersOf t) M′ × LowestUnopened t q)
+  open-phaser-exact q M′ = (there, back)
     where
-      there : Steps (callOf t 2 a p o) M′ × (callOf t 2 a p o .value ≡ q) → Runs t a × NewP a q (phasersOf t) M′ × LowestUnopened t q
+      there : Steps (openPhaserOf t a) M′ × (openPhaserOf t a .value ≡ q) → Runs t a × NewP a q (phasersOf t) M′ × LowestUnopened t q
       there x =
-          let h = open-phaser-accepted t a p o .0 (x .0 .0) in
-          let e = sym (open-phaser-changes t z a p o (x .0 .0) .values) ∙ x .1 in
-          let r = subst (NewP a (lowestUnopened t) (phasersOf t)) (x .0 .1) (open-moves o (x .0 .0)) in (
-            caller (h .sound) (h .caller),
+          let h = row-accepted (open-phaser-row t a) .0 (x .0 .0) in
+          let e = sym (open-phaser-changes t z a (x .0 .0) .values) ∙ x .1 in
+          let r = subst (NewP a (lowestUnopened t) (phasersOf t)) (x .0 .1) (open-moves (x .0 .0)) in (
+            by-caller (h .caller),
             subst (λ (k : ℕ). NewP a k (phasersOf t) M′) e r,
             subst (LowestUnopened t) e (h .unopened, unopened-lowest t .1),
           )
 
-      back : Runs t a × NewP a q (phasersOf t) M′ × LowestUnopened t q → Steps (callOf t 2 a p o) M′ × (callOf t 2 a p o .value ≡ q)
+      back : Runs t a × NewP a q (phasersOf t) M′ × LowestUnopened t q → Steps (openPhaserOf t a) M′ × (openPhaserOf t a .value ≡ q)
       back x =
           let e = lowest-unopened t q (phaser-absent t q .0 (x .1 .fresh)) (x .2) in
           let low : lowestUnopened t < 16 = omega (arith, e, x .2 .0) in
-          let l = open-phaser-accepted t a p o .1 (record { sound = sound-iff t .1 (x .0 .0); caller = x .0 .1; unopened = low }) in
-          let n = open-moves o l .next ∙ (ap (λ (k : ℕ). put (phasersOf t) k (some (put (λ u. none) a (some 0)))) e ∙ sym (x .1 .next)) in
-          ((l, n), open-phaser-changes t z a p o l .values ∙ e)
+          let l = row-accepted (open-phaser-row t a) .1 (record { caller = as-caller (x .0); unopened = low }) in
+          let n = open-moves l .next ∙ (ap (λ (k : ℕ). put (phasersOf t) k (some (put (λ u. none) a (some 0)))) e ∙ sym (x .1 .next)) in
+          ((l, n), open-phaser-changes t z a l .values ∙ e)
 
   -- ---- waits: they pass where the rule can step, and block where only await(P, n) fails
   module _ (n : ℕ) where
@@ -266,22 +254,22 @@ module _ (t : Table) (z : Shaped t) (a p : ℕ) where
   -- 8: wait at a stated phase is [await-n], up to phase 65,535
   module _ (n : ℕ) where
     abbrev wait-at : Called
-    wait-at = callOf t 8 a p n
+    wait-at = waitAtOf t a p n
 
-    wait-at-by : (m : ℕ) (Q R : Type 0) → m < 10 → (wait-at .answer < 10 → (wait-at .answer ≡ m) ↔ Q) → (openAt t p ≡ true → Q ↔ R) → (R → openAt t p ≡ true)
-        → (wait-at .answer ≡ m) ↔ (Runs t a × R × (n ≤ largestPhase))
+    wait-at-by : (m : ℕ) (Q R : Type 0) → m < 10 → (wait-at .answer < 10 → (wait-at .answer ≡ m) ↔ Q) → (openAt t p ≡ true → Q ↔ R)
+        → (R → openAt t p ≡ true) → (wait-at .answer ≡ m) ↔ (Runs t a × R × (n ≤ largestPhase))
     wait-at-by m Q R k f g i = (there, back)
       where
         there : wait-at .answer ≡ m → Runs t a × R × (n ≤ largestPhase)
         there e =
             let l : wait-at .answer < 10 = omega (arith, e) in
-            let h = wait-at-accepted t a p n .0 l in
-            (caller (h .sound) (h .caller), g (h .opens) .0 (f l .0 e), h .fits)
+            let h = row-accepted (wait-at-row t a p n) .0 l in
+            (by-caller (h .caller), g (h .opens) .0 (f l .0 e), h .fits)
 
         back : Runs t a × R × (n ≤ largestPhase) → wait-at .answer ≡ m
         back x =
             let o = i (x .1) in
-            let l = wait-at-accepted t a p n .1 (record { sound = sound-iff t .1 (x .0 .0); caller = x .0 .1; opens = o; fits = x .2 }) in
+            let l = row-accepted (wait-at-row t a p n) .1 (record { caller = as-caller (x .0); opens = o; fits = x .2 }) in
             f l .1 (g o .1 (x .1))
 
     pub wait-at-passes : (wait-at .answer ≡ waitPassed) ↔ (Runs t a × AwaitN p n (phasersOf t) × (n ≤ largestPhase))
@@ -297,65 +285,65 @@ module _ (t : Table) (z : Shaped t) (a p : ℕ) where
         (λ w. phaser-opens t p (w .0) (w .1) .0)
 
   -- 7: wait at own phase is [await]
-  module _ (o : ℕ) where
-    abbrev wait : Called
-    wait = callOf t 7 a p o
+  abbrev wait : Called
+  wait = waitOf t a p
 
-    wait-by : (m : ℕ) (Q R : Type 0) → m < 10 → (wait .answer < 10 → (wait .answer ≡ m) ↔ Q) → (openAt t p ≡ true → memberAt t a p ≡ true → Q ↔ R)
-        → (R → (openAt t p ≡ true) × (memberAt t a p ≡ true)) → (wait .answer ≡ m) ↔ (Runs t a × R)
-    wait-by m Q R k f g i = (there, back)
-      where
-        there : wait .answer ≡ m → Runs t a × R
-        there e =
-            let l : wait .answer < 10 = omega (arith, e) in
-            let h = wait-accepted t a p o .0 l in
-            (caller (h .sound) (h .caller), g (h .opens) (h .member) .0 (f l .0 e))
+  wait-by : (m : ℕ) (Q R : Type 0) → m < 10 → (wait .answer < 10 → (wait .answer ≡ m) ↔ Q)
+      → (openAt t p ≡ true → memberAt t a p ≡ true → Q ↔ R)
+      → (R → (openAt t p ≡ true) × (memberAt t a p ≡ true)) → (wait .answer ≡ m) ↔ (Runs t a × R)
+  wait-by m Q R k f g i = (there, back)
+    where
+      there : wait .answer ≡ m → Runs t a × R
+      there e =
+          let l : wait .answer < 10 = omega (arith, e) in
+          let h = row-accepted (wait-row t a p) .0 l in
+          (by-caller (h .caller), g (h .opens) (h .member) .0 (f l .0 e))
 
-        back : Runs t a × R → wait .answer ≡ m
-        back x =
-            let w = i (x .1) in
-            let l = wait-accepted t a p o .1 (record { sound = sound-iff t .1 (x .0 .0); caller = x .0 .1; opens = w .0; member = w .1 }) in
-            f l .1 (g (w .0) (w .1) .1 (x .1))
+      back : Runs t a × R → wait .answer ≡ m
+      back x =
+          let w = i (x .1) in
+          let l = row-accepted (wait-row t a p) .1 (record { caller = as-caller (x .0); opens = w .0; member = w .1 }) in
+          f l .1 (g (w .0) (w .1) .1 (x .1))
 
-    pub wait-passes : (wait .answer ≡ waitPassed) ↔ (Runs t a × AwaitOwn a p (phasersOf t))
-    wait-passes =
-        wait-by waitPassed (reachedOf t (event p (phaseAt t a p)) ≡ true) (AwaitOwn a p (phasersOf t)) (lit< tt)
-        (λ l. waited-passed (phaseAt t a p) (wait-changes t z a p o l))
-        (λ e m. (
-          λ r. record {
-            phaser = phaserOf t p;
-            there = phaser-there t p e;
-            phase = phaseAt t a p;
-            caller = member-there t p a m;
-            goes = rule-reached (phaseAt t a p) e .0 r;
-          },
-          λ w. rule-reached (phaseAt t a p) e .1 (subst (λ (n : ℕ). AwaitN p n (phasersOf t)) (sym (member (w .there) (w .caller) .2)) (w .goes)),
-        ))
-        (λ w. let x = member (w .there) (w .caller) in (x .0, x .1))
+  pub wait-passes : (wait .answer ≡ waitPassed) ↔ (Runs t a × AwaitOwn a p (phasersOf t))
+  wait-passes =
+      wait-by waitPassed (reachedOf t (event p (phaseAt t a p)) ≡ true) (AwaitOwn a p (phasersOf t)) (lit< tt)
+      (λ l. waited-passed (phaseAt t a p) (wait-changes t z a p l))
+      (λ e m. (
+        λ r. record {
+          phaser = phaserOf t p;
+          there = phaser-there t p e;
+          phase = phaseAt t a p;
+          caller = member-there t p a m;
+          goes = rule-reached (phaseAt t a p) e .0 r;
+        },
+        λ w. rule-reached (phaseAt t a p) e .1 (subst (λ (n : ℕ). AwaitN p n (phasersOf t)) (sym (member (w .there) (w .caller) .2)) (w .goes)),
+      ))
+      (λ w. let x = member (w .there) (w .caller) in (x .0, x .1))
 
-    pub wait-blocks : (wait .answer ≡ nowBlocked) ↔ (Runs t a × BehindOwn (phasersOf t) a p)
-    wait-blocks =
-        wait-by nowBlocked (reachedOf t (event p (phaseAt t a p)) ≡ false) (BehindOwn (phasersOf t) a p) (lit< tt)
-        (λ l. waited-blocked (phaseAt t a p) (wait-changes t z a p o l))
-        (λ e m. (
-          λ r. (phaserOf t p, phaseAt t a p, phaser-there t p e, member-there t p a m, rule-unreached (phaseAt t a p) e .0 r),
-          λ w. rule-unreached (phaseAt t a p) e .1 (subst (λ (n : ℕ). Behind (phasersOf t) p n) (sym (member (w .2) (w .3) .2)) (w .4)),
-        ))
-        (λ w. let x = member (w .2) (w .3) in (x .0, x .1))
+  pub wait-blocks : (wait .answer ≡ nowBlocked) ↔ (Runs t a × BehindOwn (phasersOf t) a p)
+  wait-blocks =
+      wait-by nowBlocked (reachedOf t (event p (phaseAt t a p)) ≡ false) (BehindOwn (phasersOf t) a p) (lit< tt)
+      (λ l. waited-blocked (phaseAt t a p) (wait-changes t z a p l))
+      (λ e m. (
+        λ r. (phaserOf t p, phaseAt t a p, phaser-there t p e, member-there t p a m, rule-unreached (phaseAt t a p) e .0 r),
+        λ w. rule-unreached (phaseAt t a p) e .1 (subst (λ (n : ℕ). Behind (phasersOf t) p n) (sym (member (w .2) (w .3) .2)) (w .4)),
+      ))
+      (λ w. let x = member (w .2) (w .3) in (x .0, x .1))
 
 -- ---- what document 01 adds
-module _ (t : Table) (z : Shaped t) (a p o : ℕ) where
+module _ (t : Table) (z : Shaped t) where
   -- 9: release is [await-n] for a task that is blocked at it
-  pub release-exact : (M′ : PhaserMap) → Steps (callOf t 9 a p o) M′
-      ↔ (Sound t × ((e : Event) × BlockedOn t a e × AwaitN (e .phaser .0) (e .phase .0) (phasersOf t)) × (M′ ≡ phasersOf t))
-  release-exact M′ = (
+  pub release-exact : (a : ℕ) (M′ : PhaserMap) → Steps (releaseOf t a) M′
+      ↔ (Sound t × ((e : Awaited) × BlockedOn t a e × AwaitN (e .phaser .0) (e .phase .0) (phasersOf t)) × (M′ ≡ phasersOf t))
+  release-exact a M′ = (
     λ x.
-        let h = release-accepted t a p o .0 (x .0) in
+        let h = row-accepted (release-row t a) .0 (x .0) in
         let s = sound-iff t .0 (h .sound) in
         (s, (h .event, h .blocked, rule (h .event) (s .open-awaited a (h .event) (h .blocked)) .0 (h .reached)), sym (x .1) ∙ same (x .0)),
     λ x.
         let e = x .1 .0 in
-        let l = release-accepted t a p o .1 (record {
+        let l = row-accepted (release-row t a) .1 (record {
           sound = sound-iff t .1 (x .0);
           event = e;
           blocked = x .1 .1;
@@ -364,60 +352,60 @@ module _ (t : Table) (z : Shaped t) (a p o : ℕ) where
         (l, same l ∙ sym (x .2)),
   )
     where
-      rule : (e : Event) → openAt t (e .phaser .0) ≡ true → (reachedOf t e ≡ true) ↔ AwaitN (e .phaser .0) (e .phase .0) (phasersOf t)
+      rule : (e : Awaited) → openAt t (e .phaser .0) ≡ true → (reachedOf t e ≡ true) ↔ AwaitN (e .phaser .0) (e .phase .0) (phasersOf t)
       rule e = rule-reached t z a (e .phaser .0) (e .phase .0)
 
-      same : callOf t 9 a p o .answer < 10 → phasersOf (callOf t 9 a p o .table) ≡ phasersOf t
-      same l = phasers-same t _ (release-changes t z a p o l .reads)
+      same : releaseOf t a .answer < 10 → phasersOf (releaseOf t a .table) ≡ phasersOf t
+      same l = phasers-same t _ (release-changes t z a l .reads)
 
   -- 0: a task is opened at the lowest free number
   pub open-task-exact : (q : ℕ) (M′ : PhaserMap)
-      → (Steps (callOf t 0 a p o) M′ × (callOf t 0 a p o .value ≡ q)) ↔ (Sound t × LowestFree t q × (M′ ≡ phasersOf t))
+      → (Steps (openTaskOf t) M′ × (openTaskOf t .value ≡ q)) ↔ (Sound t × LowestFree t q × (M′ ≡ phasersOf t))
   open-task-exact q M′ = (there, back)
     where
-      same : callOf t 0 a p o .answer < 10 → phasersOf (callOf t 0 a p o .table) ≡ phasersOf t
-      same l = phasers-same t _ (open-task-changes t z a p o l .reads)
+      same : openTaskOf t .answer < 10 → phasersOf (openTaskOf t .table) ≡ phasersOf t
+      same l = phasers-same t _ (open-task-changes t z l .reads)
 
-      there : Steps (callOf t 0 a p o) M′ × (callOf t 0 a p o .value ≡ q) → Sound t × LowestFree t q × (M′ ≡ phasersOf t)
+      there : Steps (openTaskOf t) M′ × (openTaskOf t .value ≡ q) → Sound t × LowestFree t q × (M′ ≡ phasersOf t)
       there x =
           let l = x .0 .0 in
-          let h = open-task-accepted t a p o .0 l in
-          let e = sym (open-task-changes t z a p o l .values) ∙ x .1 in
+          let h = row-accepted (open-task-row t) .0 l in
+          let e = sym (open-task-changes t z l .values) ∙ x .1 in
           (sound-iff t .0 (h .sound), subst (LowestFree t) e (free-is t (h .free)), sym (x .0 .1) ∙ same l)
 
-      back : Sound t × LowestFree t q × (M′ ≡ phasersOf t) → Steps (callOf t 0 a p o) M′ × (callOf t 0 a p o .value ≡ q)
+      back : Sound t × LowestFree t q × (M′ ≡ phasersOf t) → Steps (openTaskOf t) M′ × (openTaskOf t .value ≡ q)
       back x =
           let e = lowest-free t q (x .1) in
           let free : lowestFree t < 32 = omega (arith, e, x .1 .0) in
-          let l = open-task-accepted t a p o .1 (record { sound = sound-iff t .1 (x .0); free = free }) in
-          ((l, same l ∙ sym (x .2)), open-task-changes t z a p o l .values ∙ e)
+          let l = row-accepted (open-task-row t) .1 (record { sound = sound-iff t .1 (x .0); free = free }) in
+          ((l, same l ∙ sym (x .2)), open-task-changes t z l .values ∙ e)
 
   -- 1: a task that ends leaves every phaser
-  pub end-task-exact : (M′ : PhaserMap) → Steps (callOf t 1 a p o) M′ ↔ (Runs t a × (M′ ≡ without a (phasersOf t)))
-  end-task-exact M′ = (
+  pub end-task-exact : (a : ℕ) (M′ : PhaserMap) → Steps (endTaskOf t a) M′ ↔ (Runs t a × (M′ ≡ without a (phasersOf t)))
+  end-task-exact a M′ = (
     λ x.
-        let h = end-task-accepted t a p o .0 (x .0) in
-        ((sound-iff t .0 (h .sound), h .caller), sym (x .1) ∙ ends (x .0)),
+        let h = row-accepted (end-task-row t a) .0 (x .0) in
+        (by-caller h, sym (x .1) ∙ ends (x .0)),
     λ x.
-        let l = end-task-accepted t a p o .1 (record { sound = sound-iff t .1 (x .0 .0); caller = x .0 .1 }) in
+        let l = row-accepted (end-task-row t a) .1 (as-caller (x .0)) in
         (l, ends l ∙ sym (x .1)),
   )
     where
-      ends : callOf t 1 a p o .answer < 10 → phasersOf (callOf t 1 a p o .table) ≡ without a (phasersOf t)
-      ends l = phasers-left t _ a (end-task-changes t z a p o l .reads)
+      ends : endTaskOf t a .answer < 10 → phasersOf (endTaskOf t a .table) ≡ without a (phasersOf t)
+      ends l = phasers-left t _ a (end-task-changes t z a l .reads)
 
   -- 3: a phaser that nobody uses is closed
-  pub close-phaser-exact : (M′ : PhaserMap) → Steps (callOf t 3 a p o) M′ ↔ (Sound t × Unused t p × (M′ ≡ put (phasersOf t) p none))
-  close-phaser-exact M′ = (
+  pub close-phaser-exact : (p : ℕ) (M′ : PhaserMap) → Steps (closePhaserOf t p) M′ ↔ (Sound t × Unused t p × (M′ ≡ put (phasersOf t) p none))
+  close-phaser-exact p M′ = (
     λ x.
-        let h = close-phaser-accepted t a p o .0 (x .0) in
+        let h = row-accepted (close-phaser-row t p) .0 (x .0) in
         let u = unused-iff t p .0 (h .nobody) in
         (sound-iff t .0 (h .sound), (h .opens, u .0, u .1), sym (x .1) ∙ closes (x .0)),
     λ x.
         let u = x .1 in
-        let l = close-phaser-accepted t a p o .1 (record { sound = sound-iff t .1 (x .0); opens = u .0; nobody = unused-iff t p .1 (u .1, u .2) }) in
+        let l = row-accepted (close-phaser-row t p) .1 (record { sound = sound-iff t .1 (x .0); opens = u .0; nobody = unused-iff t p .1 (u .1, u .2) }) in
         (l, closes l ∙ sym (x .2)),
   )
     where
-      closes : callOf t 3 a p o .answer < 10 → phasersOf (callOf t 3 a p o .table) ≡ put (phasersOf t) p none
-      closes l = phasers-closed t _ p (close-phaser-changes t z a p o l .reads)
+      closes : closePhaserOf t p .answer < 10 → phasersOf (closePhaserOf t p .table) ≡ put (phasersOf t) p none
+      closes l = phasers-closed t _ p (close-phaser-changes t z p l .reads)

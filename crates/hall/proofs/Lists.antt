@@ -1,4 +1,4 @@
--- Laws of tests, of tests below a bound, and of what is read in a list after writes.
+-- Laws of searches below a bound, and of what is read in a list after writes.
 use mathlib.Core.Path.{_≡_, refl, ap, sym, _∙_}
 use mathlib.Core.Logic.{_⊎_, inl, inr, ⊎-elim}
 use mathlib.Core.Bool.{Bool, true, false, _&&_, cond}
@@ -13,31 +13,7 @@ use lib.Seq.{getD-set-same, getD-set-other}
 use borrow.Author.Tests.{eqb-true, eqb-false, ltb-true, ltb-false}
 use Rattle.hall.specs.Effects.{filled}
 use Rattle.hall.specs.Every.{every, lowestFrom}
-pub use Rattle.hall.proofs.Every.{and-left, and-right, every-at, every-all}
-
--- ---- tests
--- no test holds and fails
-pub clash : {b : Bool} → b ≡ true → b ≡ false → ⊥
-clash {b} p q = let z : _≡_ {A = ℕ} 0 1 = ap (λ (c : Bool). cond c 0 1) (sym p ∙ q) in omega arith
-
--- either it holds or it fails
-pub decide : (b : Bool) → (b ≡ true) ⊎ (b ≡ false)
-decide true = inl refl
-decide false = inr refl
-
-pub fails : (b : Bool) → (b ≡ true → ⊥) → b ≡ false
-fails true n = absurd (n refl)
-fails false n = refl
-
-pub holds : (b : Bool) → (b ≡ false → ⊥) → b ≡ true
-holds true n = refl
-holds false n = absurd (n refl)
-
--- two that hold where the other does are one
-pub same-test : (a b : Bool) → (a ≡ true → b ≡ true) → (b ≡ true → a ≡ true) → a ≡ b
-same-test true b f g = sym (f refl)
-same-test false true f g = g refl
-same-test false false f g = refl
+use Rattle.states.proofs.Truth.{clash}
 
 -- ---- tests below a bound
 -- what fails of all fails of one

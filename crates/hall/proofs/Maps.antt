@@ -7,14 +7,15 @@ use Prim.Native.Nat.{ℕ, _<_, _≤_}
 use native.Mathlib.Omega.{arith}
 use lib.Dec.{leb, eqb}
 use borrow.Author.Tests.{eqb-true, eqb-false, eq-eqb, leb-true, leb-false}
+use Rattle.states.specs.State.{event}
+use Rattle.states.specs.declared.state.State.{State}
 use Rattle.hall.specs.Additions.{leaving, without}
 use Rattle.hall.specs.Rules.{put, Phaser, PhaserMap, Await, phaserOf, phasersOf}
-use Rattle.hall.specs.Table.{openAt, memberAt, phaseAt, event}
+use Rattle.hall.specs.Table.{openAt, memberAt, phaseAt, Entry, absent}
 use Rattle.hall.specs.Waiting.{reachedOf}
-use Rattle.hall.specs.declared.table.State.{State}
 use Rattle.hall.specs.declared.table.Table.{Table}
 use Rattle.hall.proofs.Impeded.{impedes-iff, reached-iff}
-use Rattle.hall.proofs.Written.{Reads, putAt, putRow, put-here, put-other}
+use Rattle.hall.proofs.Written.{Says, said, entryAt, Reads, entered, opening, putAt, putRow, put-here, put-other}
 
 -- ---- reading a table's maps
 module _ (t : Table) (p : ℕ) where
@@ -59,94 +60,92 @@ module _ (t : Table) (p : ℕ) where
         go true q = absurd (Option·some-ne-none (phaseAt t u p) q)
         go false q = refl
 
--- ---- the maps of what is read
-abbrev phaserRead : (ℕ → ℕ → Bool) → (ℕ → ℕ → ℕ) → ℕ → Phaser
-phaserRead member phase p u = cond (member u p) (some (phase u p)) none
+-- ---- the maps of what is said
+-- the phase of an entry, if it is a member's
+abbrev pub phaseIn : Entry → Option ℕ
+phaseIn e = cond (e .member) (some (e .phase)) none
 
-abbrev phasersRead : (ℕ → Bool) → (ℕ → ℕ → Bool) → (ℕ → ℕ → ℕ) → PhaserMap
-phasersRead opened member phase p = cond (opened p) (some (phaserRead member phase p)) none
+abbrev phaserRead : (ℕ → ℕ → Entry) → ℕ → Phaser
+phaserRead entry p u = phaseIn (entry u p)
 
-reads-phasers : (t : Table) {state : ℕ → State} {opened : ℕ → Bool} {member : ℕ → ℕ → Bool} {phase : ℕ → ℕ → ℕ} → Reads t state opened member phase
-    → phasersOf t ≡ phasersRead opened member phase
+abbrev phasersRead : (ℕ → Bool) → (ℕ → ℕ → Entry) → PhaserMap
+phasersRead opened entry p = cond (opened p) (some (phaserRead entry p)) none
+
+reads-phasers : (t : Table) {x : Says} → Reads t x → phasersOf t ≡ phasersRead (x .opened) (x .entry)
 unfolding phasersOf phaserOf
-reads-phasers t {opened} {member} {phase} r =
+reads-phasers t {x} r =
     fun-ext
     (λ p.
     rw (r .opens p)
-    (ap (λ (P : Phaser). cond {A = Option Phaser} (opened p) (some P) none) (fun-ext (λ u. rw (r .members u p, r .phases u p)))))
+    (ap (λ (P : Phaser). cond {A = Option Phaser} (x .opened p) (some P) none) (fun-ext (λ u. ap phaseIn (r .entries u p)))))
 
 -- entry (k, p) is written, and p is open
-module _ (opened next : ℕ → Bool) (member : ℕ → ℕ → Bool) (phase : ℕ → ℕ → ℕ) (k p : ℕ) (m : Bool) (n : ℕ) where
+module _ (opened next : ℕ → Bool) (entry : ℕ → ℕ → Entry) (k p : ℕ) (e : Entry) where
   abbrev written : PhaserMap
-  written = phasersRead next (putAt member k p m) (putAt phase k p n)
+  written = phasersRead next (putAt entry k p e)
 
-  phasers-entry : (P : Phaser) → phaserRead member phase p ≡ P → next p ≡ true → ((q : ℕ) → (q ≡ p → ⊥) → next q ≡ opened q)
-      → written ≡ put (phasersRead opened member phase) p (some (put P k (cond m (some n) none)))
-  phasers-entry P e o s = fun-ext (λ q. go q (eqb q p) refl)
+  phasers-entry : (P : Phaser) → phaserRead entry p ≡ P → next p ≡ true → ((q : ℕ) → (q ≡ p → ⊥) → next q ≡ opened q)
+      → written ≡ put (phasersRead opened entry) p (some (put P k (phaseIn e)))
+  phasers-entry P i o s = fun-ext (λ q. go q (eqb q p) refl)
     where
-      there : (u : ℕ) → phaserRead (putAt member k p m) (putAt phase k p n) p u ≡ put P k (cond m (some n) none) u
+      there : (u : ℕ) → phaserRead (putAt entry k p e) p u ≡ put P k (phaseIn e) u
       there u = rw (eq-eqb p p refl, and-true (eqb u k)) (at (eqb u k))
         where
-          at : (b : Bool) → cond {A = Option ℕ} (cond b m (member u p)) (some (cond b n (phase u p))) none ≡ cond b (cond m (some n) none) (P u)
+          at : (b : Bool) → phaseIn (cond b e (entry u p)) ≡ cond b (phaseIn e) (P u)
           at true = refl
-          at false = ap (λ (Q : Phaser). Q u) e
+          at false = ap (λ (Q : Phaser). Q u) i
 
-      away : (q : ℕ) → eqb q p ≡ false → (u : ℕ) → phaserRead (putAt member k p m) (putAt phase k p n) q u ≡ phaserRead member phase q u
+      away : (q : ℕ) → eqb q p ≡ false → (u : ℕ) → phaserRead (putAt entry k p e) q u ≡ phaserRead entry q u
       away q x u = rw (x, and-false (eqb u k))
 
-      go : (q : ℕ) (b : Bool) → eqb q p ≡ b → written q ≡ cond b (some (put P k (cond m (some n) none))) (phasersRead opened member phase q)
+      go : (q : ℕ) (b : Bool) → eqb q p ≡ b → written q ≡ cond b (some (put P k (phaseIn e))) (phasersRead opened entry q)
       go q true x =
           ap written (eqb-true q p x)
-          ∙ (ap (λ (b : Bool). cond {A = Option Phaser} b (some (phaserRead (putAt member k p m) (putAt phase k p n) p)) none) o
+          ∙ (ap (λ (b : Bool). cond {A = Option Phaser} b (some (phaserRead (putAt entry k p e) p)) none) o
           ∙ ap {B = Option Phaser} some (fun-ext there))
       go q false x =
-          ap (λ (b : Bool). cond {A = Option Phaser} b (some (phaserRead (putAt member k p m) (putAt phase k p n) q)) none) (s q (eqb-false q p x))
+          ap (λ (b : Bool). cond {A = Option Phaser} b (some (phaserRead (putAt entry k p e) q)) none) (s q (eqb-false q p x))
           ∙ ap (λ (Q : Phaser). cond {A = Option Phaser} (opened q) (some Q) none) (fun-ext (away q x))
 
 -- ---- how writes move a table's map
 module _ (t u : Table) where
   -- states only
-  pub phasers-same : {state : ℕ → State} → Reads u state (openAt t) (memberAt t) (phaseAt t) → phasersOf u ≡ phasersOf t
+  pub phasers-same : {state : ℕ → State} → Reads u (record { state = state; opened = openAt t; entry = entryAt t }) → phasersOf u ≡ phasersOf t
   unfolding phasersOf phaserOf
   phasers-same r = reads-phasers u r
 
   -- one entry of an open phaser
-  pub phasers-moved : {state : ℕ → State} (k p : ℕ) (m : Bool) (n : ℕ) → openAt t p ≡ true
-      → Reads u state (openAt t) (putAt (memberAt t) k p m) (putAt (phaseAt t) k p n)
-      → phasersOf u ≡ put (phasersOf t) p (some (put (phaserOf t p) k (cond m (some n) none)))
+  pub phasers-moved : (k p : ℕ) (e : Entry) → openAt t p ≡ true → Reads u (entered (said t) k p e)
+      → phasersOf u ≡ put (phasersOf t) p (some (put (phaserOf t p) k (phaseIn e)))
   unfolding phasersOf phaserOf
-  phasers-moved k p m n o r =
-      reads-phasers u r ∙ phasers-entry (openAt t) (openAt t) (memberAt t) (phaseAt t) k p m n (phaserOf t p) refl o (λ q x. refl)
+  phasers-moved k p e o r = reads-phasers u r ∙ phasers-entry (openAt t) (openAt t) (entryAt t) k p e (phaserOf t p) refl o (λ q x. refl)
 
   -- a phaser with no members is opened, with one
-  pub phasers-opened : {state : ℕ → State} (k p n : ℕ) → ((j : ℕ) → memberAt t j p ≡ false)
-      → Reads u state (put (openAt t) p true) (putAt (memberAt t) k p true) (putAt (phaseAt t) k p n)
-      → phasersOf u ≡ put (phasersOf t) p (some (put (λ j. none) k (some n)))
+  pub phasers-opened : (k p : ℕ) (e : Entry) → ((j : ℕ) → memberAt t j p ≡ false) → Reads u (entered (opening (said t) p true) k p e)
+      → phasersOf u ≡ put (phasersOf t) p (some (put (λ j. none) k (phaseIn e)))
   unfolding phasersOf phaserOf
-  phasers-opened k p n e r =
+  phasers-opened k p e none-there r =
       reads-phasers u r
-      ∙ phasers-entry (openAt t) (put (openAt t) p true) (memberAt t) (phaseAt t) k p true n (λ j. none) (fun-ext (λ j. rw (e j))) (put-here (openAt t) p true)
+      ∙ phasers-entry (openAt t) (put (openAt t) p true) (entryAt t) k p e (λ j. none) (fun-ext (λ j. rw (none-there j))) (put-here (openAt t) p true)
       (put-other (openAt t) p true)
 
   -- all the entries of a task are cleared
-  pub phasers-left : {state : ℕ → State} (k : ℕ) → Reads u state (openAt t) (putRow (memberAt t) k false) (putRow (phaseAt t) k 0)
+  pub phasers-left : {state : ℕ → State} (k : ℕ) → Reads u (record { state = state; opened = openAt t; entry = putRow (entryAt t) k absent })
       → phasersOf u ≡ without k (phasersOf t)
   unfolding phasersOf phaserOf
   phasers-left k r = reads-phasers u r ∙ fun-ext (λ p. go p (openAt t p))
     where
-      entry : (p j : ℕ) (b : Bool)
-          → cond {A = Option ℕ} (cond b false (memberAt t j p)) (some (cond b 0 (phaseAt t j p))) none ≡ cond b none (phaserOf t p j)
-      entry p j true = refl
-      entry p j false = refl
+      at : (p j : ℕ) (b : Bool) → phaseIn (cond b absent (entryAt t j p)) ≡ cond b none (phaserOf t p j)
+      at p j true = refl
+      at p j false = refl
 
-      go : (p : ℕ) (b : Bool) → cond {A = Option Phaser} b (some (phaserRead (putRow (memberAt t) k false) (putRow (phaseAt t) k 0) p)) none
+      go : (p : ℕ) (b : Bool) → cond {A = Option Phaser} b (some (phaserRead (putRow (entryAt t) k absent) p)) none
           ≡ leaving k (cond b (some (phaserOf t p)) none)
-      go p true = ap {B = Option Phaser} some (fun-ext (λ j. entry p j (eqb j k)))
+      go p true = ap {B = Option Phaser} some (fun-ext (λ j. at p j (eqb j k)))
       go p false = refl
 
   -- a phaser is closed
-  pub phasers-closed : {state : ℕ → State} (p : ℕ) → Reads u state (put (openAt t) p false) (memberAt t) (phaseAt t)
-      → phasersOf u ≡ put (phasersOf t) p none
+  pub phasers-closed : (p : ℕ) → Reads u (opening (said t) p false) → phasersOf u ≡ put (phasersOf t) p none
   unfolding phasersOf phaserOf
   phasers-closed p r = reads-phasers u r ∙ fun-ext (λ q. go q (eqb q p))
     where

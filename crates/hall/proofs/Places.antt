@@ -7,11 +7,12 @@ use native.Mathlib.Omega.{arith}
 use lib.Dec.{ltb}
 use lib.ListN.{getD}
 use borrow.Author.Tests.{lt-ltb, le-ltb, ltb-true}
-use Rattle.hall.specs.Sound.{entrySound}
-use Rattle.hall.specs.Table.{freeTask, phase0, entry, stateAt, openAt, memberAt, phaseAt, isLive}
-use Rattle.hall.specs.declared.table.State.the-variants.{Free}
+use Rattle.states.specs.Parts.{entrySound}
+use Rattle.states.specs.State.{freeTask, phase0, isLive}
+use Rattle.hall.specs.Table.{stateAt, openAt, memberAt, phaseAt}
+use Rattle.states.specs.declared.state.State.the-variants.{Free}
 use Rattle.hall.specs.declared.table.Table.{Table}
-use Rattle.hall.proofs.Every.{and-left}
+use Rattle.states.proofs.Truth.{and-left}
 
 module _ (t : Table) where
   pub state-in : (k : ℕ) → k < 32 → stateAt t k ≡ getD (t .tasks) k freeTask .state

@@ -4,12 +4,12 @@ use mathlib.Core.Path.{_≡_}
 use mathlib.Core.Bool.{true, false}
 use mathlib.Core.Option.{Option, some, none}
 use Prim.Native.Nat.{ℕ, _<_}
+use Rattle.states.specs.Waiting.{Awaited}
+use Rattle.states.specs.declared.state.State.the-variants.{Free, Running}
 use Rattle.hall.specs.Rules.{put, Phaser, PhaserMap, Await}
 use Rattle.hall.specs.Sound.{Sound}
 use Rattle.hall.specs.Table.{stateAt, openAt, memberAt}
 use Rattle.hall.specs.Waiting.{BlockedOn}
-use Rattle.hall.specs.declared.table.Event.{Event}
-use Rattle.hall.specs.declared.table.State.the-variants.{Free, Running}
 use Rattle.hall.specs.declared.table.Table.{Table}
 
 -- the table is sound (44) and the caller runs (10, 12)
@@ -26,7 +26,7 @@ LowestUnopened t q = (q < 16) × ((r : ℕ) → r < q → openAt t r ≡ true)
 
 -- the phaser is open (11), has no member, and nobody is blocked on it (19)
 abbrev pub Unused : Table → ℕ → Type 0
-Unused t p = (openAt t p ≡ true) × ((k : ℕ) → memberAt t k p ≡ false) × ((k : ℕ) (e : Event) → BlockedOn t k e → e .phaser .0 ≡ p → ⊥)
+Unused t p = (openAt t p ≡ true) × ((k : ℕ) → memberAt t k p ≡ false) × ((k : ℕ) (e : Awaited) → BlockedOn t k e → e .phaser .0 ≡ p → ⊥)
 
 -- "leaves every phaser": the map without task a
 abbrev pub leaving : ℕ → Option Phaser → Option Phaser

@@ -3,8 +3,9 @@ use mathlib.Core.Bool.{Bool, false}
 use mathlib.Core.List.{List}
 use Prim.Native.Nat.{ℕ, zero, suc, _+_, _*_}
 use lib.ListN.{set}
-use Rattle.hall.specs.Table.{phase0}
-use Rattle.hall.specs.declared.table.State.{State}
+use Rattle.states.specs.State.{phase0}
+use Rattle.states.specs.declared.state.State.{State}
+use Rattle.hall.specs.Table.{Entry}
 use Rattle.hall.specs.declared.table.Table.{Table}
 
 -- task k has state s
@@ -16,13 +17,13 @@ withState t k s = record {
   members = t .members;
 }
 
--- task k is a member of phaser p, or none, and its kept phase there is n
-unfoldable pub withEntry : Table → ℕ → ℕ → Bool → ℕ → Table
-withEntry t k p member n = record {
+-- task k has entry e for phaser p
+unfoldable pub withEntry : Table → ℕ → ℕ → Entry → Table
+withEntry t k p e = record {
   tasks = t .tasks;
   opened = t .opened;
-  phases = set (t .phases) (k * 16 + p) (record { 0 = n });
-  members = set (t .members) (k * 16 + p) member;
+  phases = set (t .phases) (k * 16 + p) (record { 0 = e .phase });
+  members = set (t .members) (k * 16 + p) (e .member);
 }
 
 -- phaser p is open, or not

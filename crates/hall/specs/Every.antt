@@ -1,5 +1,5 @@
 -- Tests over the numbers below a bound.
-use mathlib.Core.Bool.{Bool, true, false, _&&_, cond}
+use mathlib.Core.Bool.{Bool, true, _&&_, cond}
 use Prim.Native.Nat.{ℕ, zero, suc, _+_}
 
 -- the test holds at each number below n

@@ -3,6 +3,7 @@ pub mod Every
 pub mod Table
 pub mod Sound
 pub mod Waiting
+pub mod Parts
 pub mod Tests
 pub mod Effects
 pub mod Calls

@@ -1,26 +1,13 @@
--- Document 01, 'The table': what a table says of a task, a phaser, a membership, at numbers of any size.
+-- Document 01, 'The table': what a table says of a task, a phaser, an entry, at numbers of any size.
 use mathlib.Core.Path.{_≡_}
 use mathlib.Core.Bool.{Bool, true, false, _&&_, cond}
 use Prim.Native.Nat.{ℕ, _+_, _*_}
 use lib.Dec.{ltb}
 use lib.ListN.{getD, length, replicate}
-use Rattle.hall.specs.declared.table.Event.{Event}
-use Rattle.hall.specs.declared.table.Phase.{Phase}
-use Rattle.hall.specs.declared.table.State.{State}
-use Rattle.hall.specs.declared.table.State.the-variants.{Free, Running, Blocked}
+use Rattle.states.specs.State.{freeTask, phase0}
+use Rattle.states.specs.declared.state.State.{State}
+use Rattle.states.specs.declared.state.State.the-variants.{Free}
 use Rattle.hall.specs.declared.table.Table.{Table}
-use Rattle.hall.specs.declared.table.Task.{Task}
-
--- "phases 0 to 65,535"
-abbrev pub largestPhase : ℕ
-largestPhase = 65535
-
--- what stands in a place that nothing was written to
-abbrev pub freeTask : Task
-freeTask = record { state = Free }
-
-abbrev pub phase0 : Phase
-phase0 = record { 0 = 0 }
 
 -- "its state (free, running, or blocked on one event)"; a number over 31 is nobody's
 unfoldable pub stateAt : Table → ℕ → State
@@ -31,39 +18,28 @@ unfoldable pub openAt : Table → ℕ → Bool
 openAt t p = ltb p 16 && getD (t .opened) p false
 
 -- "512 phases, sixteen for each of thirty-two tasks, and .. for each whether the task is a member"
-abbrev pub entry : ℕ → ℕ → Bool
-entry k p = ltb k 32 && ltb p 16
+abbrev pub inTable : ℕ → ℕ → Bool
+inTable k p = ltb k 32 && ltb p 16
 
 unfoldable pub memberAt : Table → ℕ → ℕ → Bool
-memberAt t k p = entry k p && getD (t .members) (k * 16 + p) false
+memberAt t k p = inTable k p && getD (t .members) (k * 16 + p) false
 
 unfoldable pub phaseAt : Table → ℕ → ℕ → ℕ
-phaseAt t k p = cond (entry k p) (getD (t .phases) (k * 16 + p) phase0 .0) 0
+phaseAt t k p = cond (inTable k p) (getD (t .phases) (k * 16 + p) phase0 .0) 0
 
--- "a live task (running or blocked)"
-abbrev pub isFree : State → Bool
-isFree Free = true
-isFree Running = false
-isFree (Blocked e) = false
+-- an entry: whether the task is a member, and the phase that is kept; of a member at phase n; of no member
+pub record Entry : Type 0 where
+  pub member : Bool
+  pub phase : ℕ
 
-abbrev pub isLive : State → Bool
-isLive Free = false
-isLive Running = true
-isLive (Blocked e) = true
+abbrev pub entryOf : Bool → ℕ → Entry
+entryOf member phase = record { member = member; phase = phase }
 
-abbrev pub isRunning : State → Bool
-isRunning Free = false
-isRunning Running = true
-isRunning (Blocked e) = false
+abbrev pub joined : ℕ → Entry
+joined n = entryOf true n
 
-abbrev pub isBlocked : State → Bool
-isBlocked Free = false
-isBlocked Running = false
-isBlocked (Blocked e) = true
-
--- "An event is a phaser and a phase"
-abbrev pub event : ℕ → ℕ → Event
-event p n = record { phaser = record { 0 = p }; phase = record { 0 = n } }
+abbrev pub absent : Entry
+absent = entryOf false 0
 
 -- "A fresh table has no task and no open phaser"
 unfoldable pub freshTable : Table

@@ -1,21 +1,39 @@
 // Document 01, 'The ten calls': each takes the table and hands the next table back, with an answer and a value.
-use crate::answers::DONE;
-use crate::answers::NO_KIND;
-use crate::answers::NONE_FREE;
-use crate::answers::NOT_SOUND;
-use crate::answers::NOW_BLOCKED;
-use crate::answers::WAIT_PASSED;
-use crate::table::Event;
-use crate::table::Phase;
-use crate::table::PhaserNo;
-use crate::table::State;
 use crate::table::Table;
-use crate::table::Task;
-use crate::table::TaskNo;
+use answers::DONE;
+use answers::NO_KIND;
+use answers::NONE_FREE;
+use answers::NOT_SOUND;
+use answers::NOW_BLOCKED;
+use answers::WAIT_PASSED;
+use states::state::Event;
+use states::state::Phase;
+use states::state::PhaserNo;
+use states::state::State;
+use states::state::Task;
+use states::state::TaskNo;
+use states::tests::admit_refusal;
+use states::tests::arrive_refusal;
+use states::tests::caller_refusal;
+use states::tests::member_refusal;
+use states::tests::wait_at_refusal;
 ghost use mathlib.Core.Path.{_≡_};
 ghost use Prim.Native.Nat.{_<_};
+ghost use Rattle.hall.specs.Table.{entryOf};
 ghost use Rattle.hall.specs.Effects.{withState, withEntry, withOpen, withoutEntries};
-ghost use Rattle.hall.specs.Calls.{called, refused, openTaskOf, endTaskOf, openPhaserOf, closePhaserOf, admitOf, leaveOf, arriveOf, waits, waitOf, waitAtOf, releaseOf, callOf};
+ghost use Rattle.hall.specs.Calls.{called, refused, openTaskOf, endTaskOf, openPhaserOf, closePhaserOf, admitOf};
+ghost use Rattle.hall.specs.Calls.{leaveOf, arriveOf, waits, waitOf, waitAtOf, releaseOf, callOf};
+
+// "Kinds of call run from 0 to 9": so many there are.
+pub const KINDS: u64 = 10;
+
+// A call by the number of its kind, with numbers of any size. `other` is the target of an admit, or the stated phase of a wait.
+pub struct Call {
+    pub kind: u64,
+    pub task: u64,
+    pub phaser: u64,
+    pub other: u64,
+}
 
 pub struct Called {
     pub answer: u32,
@@ -37,7 +55,7 @@ impl Table {
     fn with_entry(self, task: TaskNo, phaser: PhaserNo, member: bool, phase: Phase) -> Table
         requires task { ⌜ task .0 < 32 ⌝ }
         requires phaser { ⌜ phaser .0 < 16 ⌝ }
-        ensures { λ r. ⌜ r ≡ withEntry self (task .0) (phaser .0) member (phase .0) ⌝ }
+        ensures { λ r. ⌜ r ≡ withEntry self (task .0) (phaser .0) (entryOf member (phase .0)) ⌝ }
     {
         let k = task.0;
         let p = phaser.0;
@@ -108,7 +126,7 @@ impl Table {
     pub fn end_task(self, task: TaskNo) -> Called
         ensures { λ r. ⌜ r ≡ endTaskOf self (task .0) ⌝ }
     {
-        let refusal = self.running_refusal(task);
+        let refusal = caller_refusal(self.is_sound(), self.state_at(task));
         if refusal != DONE {
             return self.refused(refusal);
         }
@@ -120,7 +138,7 @@ impl Table {
     pub fn open_phaser(self, task: TaskNo) -> Called
         ensures { λ r. ⌜ r ≡ openPhaserOf self (task .0) ⌝ }
     {
-        let refusal = self.running_refusal(task);
+        let refusal = caller_refusal(self.is_sound(), self.state_at(task));
         if refusal != DONE {
             return self.refused(refusal);
         }
@@ -147,7 +165,8 @@ impl Table {
     pub fn admit(self, caller: TaskNo, phaser: PhaserNo, target: TaskNo) -> Called
         ensures { λ r. ⌜ r ≡ admitOf self (caller .0) (phaser .0) (target .0) ⌝ }
     {
-        let refusal = self.admit_refusal(caller, phaser, target);
+        let seen = self.seen(caller, phaser);
+        let refusal = admit_refusal(seen, self.state_at(target), self.member_at(target, phaser));
         if refusal != DONE {
             return self.refused(refusal);
         }
@@ -159,7 +178,7 @@ impl Table {
     pub fn leave(self, task: TaskNo, phaser: PhaserNo) -> Called
         ensures { λ r. ⌜ r ≡ leaveOf self (task .0) (phaser .0) ⌝ }
     {
-        let refusal = self.member_refusal(task, phaser);
+        let refusal = member_refusal(self.seen(task, phaser));
         if refusal != DONE {
             return self.refused(refusal);
         }
@@ -170,7 +189,7 @@ impl Table {
     pub fn arrive(self, task: TaskNo, phaser: PhaserNo) -> Called
         ensures { λ r. ⌜ r ≡ arriveOf self (task .0) (phaser .0) ⌝ }
     {
-        let refusal = self.arrive_refusal(task, phaser);
+        let refusal = arrive_refusal(self.seen(task, phaser));
         if refusal != DONE {
             return self.refused(refusal);
         }
@@ -197,7 +216,7 @@ impl Table {
     pub fn wait(self, task: TaskNo, phaser: PhaserNo) -> Called
         ensures { λ r. ⌜ r ≡ waitOf self (task .0) (phaser .0) ⌝ }
     {
-        let refusal = self.member_refusal(task, phaser);
+        let refusal = member_refusal(self.seen(task, phaser));
         if refusal != DONE {
             return self.refused(refusal);
         }
@@ -208,7 +227,7 @@ impl Table {
     pub fn wait_at(self, task: TaskNo, phaser: PhaserNo, stated: u64) -> Called
         ensures { λ r. ⌜ r ≡ waitAtOf self (task .0) (phaser .0) stated ⌝ }
     {
-        let refusal = self.wait_at_refusal(task, phaser, stated);
+        let refusal = wait_at_refusal(self.seen(task, phaser), stated);
         if refusal != DONE {
             return self.refused(refusal);
         }
@@ -226,22 +245,29 @@ impl Table {
         awake.called(DONE, 0)
     }
 
-    // A call by the number of its kind. `other` is the target of an admit, or the stated phase of a wait.
-    pub fn call(self, kind: u64, task: u64, phaser: u64, other: u64) -> Called
-        ensures { λ r. ⌜ r ≡ callOf self kind task phaser other ⌝ }
+    // "any other kind is 42, tested before all else"
+    pub fn call(self, call: Call) -> Called
+        ensures { λ r. ⌜ r ≡ callOf self call ⌝ }
     {
+        let kind = call.kind;
+        if kind >= KINDS {
+            return self.refused(NO_KIND);
+        }
+        let task = TaskNo(call.task);
+        let phaser = PhaserNo(call.phaser);
+        let other = call.other;
         match kind {
             0 => self.open_task(),
-            1 => self.end_task(TaskNo(task)),
-            2 => self.open_phaser(TaskNo(task)),
-            3 => self.close_phaser(PhaserNo(phaser)),
-            4 => self.admit(TaskNo(task), PhaserNo(phaser), TaskNo(other)),
-            5 => self.leave(TaskNo(task), PhaserNo(phaser)),
-            6 => self.arrive(TaskNo(task), PhaserNo(phaser)),
-            7 => self.wait(TaskNo(task), PhaserNo(phaser)),
-            8 => self.wait_at(TaskNo(task), PhaserNo(phaser), other),
-            9 => self.release(TaskNo(task)),
-            _ => self.refused(NO_KIND),
+            1 => self.end_task(task),
+            2 => self.open_phaser(task),
+            3 => self.close_phaser(phaser),
+            4 => self.admit(task, phaser, TaskNo(other)),
+            5 => self.leave(task, phaser),
+            6 => self.arrive(task, phaser),
+            7 => self.wait(task, phaser),
+            8 => self.wait_at(task, phaser, other),
+            // 9: no other number is left
+            _ => self.release(task),
         }
     }
 }

@@ -1,36 +1,9 @@
 // Document 01, 'The table': whether a table is sound. No number in it is trusted.
-use crate::table::LARGEST_PHASE;
-use crate::table::Phase;
-use crate::table::State;
 use crate::table::Table;
+use states::sound::entry_sound;
+use states::sound::state_sound;
 ghost use mathlib.Core.Path.{_≡_};
-ghost use Rattle.hall.specs.Sound.{entrySound, stateSound, entriesSound, statesSound, soundOf};
-ghost use Rattle.hall.specs.declared.table.Table.{Table};
-
-// One entry: of a member, who is live and whose phaser is open, or of no member.
-fn entry_sound(member: bool, state: State, opened: bool, phase: Phase) -> bool
-    ensures { λ r. ⌜ r ≡ entrySound member state opened (phase .0) ⌝ }
-{
-    if member {
-        state.is_live() && (opened && phase.0 <= LARGEST_PHASE)
-    } else {
-        phase.0 == 0
-    }
-}
-
-// One state: an awaited phaser is open, an awaited phase not too large. It takes which phasers are open, and not the whole table.
-fn state_sound(opened: [bool; 16], state: State) -> bool
-    ensures { λ r. ⌜ ((t : Table) → t .opened ≡ opened → r ≡ stateSound t state) ⌝ }
-{
-    match state {
-        State::Free => true,
-        State::Running => true,
-        State::Blocked(event) => {
-            let p = event.phaser.0;
-            p < 16 && (opened[p as usize] && event.phase.0 <= LARGEST_PHASE)
-        }
-    }
-}
+ghost use Rattle.hall.specs.Parts.{entriesSound, statesSound, soundOf};
 
 impl Table {
     fn entries_sound(self) -> bool

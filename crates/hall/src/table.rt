@@ -1,78 +1,17 @@
-// Document 01, 'The table': its types, the fresh table, and what it says of a task or a phaser at numbers of any size.
+// Document 01, 'The table': the table, the fresh table, and what it says of a task or a phaser at numbers of any size.
+use states::state::Phase;
+use states::state::PhaserNo;
+use states::state::State;
+use states::state::Task;
+use states::state::TaskNo;
 ghost use mathlib.Core.Path.{_≡_};
-ghost use Rattle.hall.specs.Table.{stateAt, openAt, memberAt, phaseAt, isFree, isLive, isRunning, isBlocked, freshTable, Shaped};
-
-// "phases 0 to 65,535"
-pub const LARGEST_PHASE: u32 = 65_535;
-
-pub struct TaskNo(pub u64);
-
-pub struct PhaserNo(pub u64);
-
-pub struct Phase(pub u32);
-
-pub struct Event {
-    pub phaser: PhaserNo,
-    pub phase: Phase,
-}
-
-pub enum State {
-    Free,
-    Running,
-    Blocked(Event),
-}
-
-pub struct Task {
-    pub state: State,
-}
+ghost use Rattle.hall.specs.Table.{stateAt, openAt, memberAt, phaseAt, freshTable, Shaped};
 
 pub struct Table {
     pub tasks: [Task; 32],
     pub opened: [bool; 16],
     pub phases: [Phase; 512],
     pub members: [bool; 512],
-}
-
-impl State {
-    pub fn is_free(self) -> bool
-        ensures { λ r. ⌜ r ≡ isFree self ⌝ }
-    {
-        match self {
-            State::Free => true,
-            State::Running => false,
-            State::Blocked(_) => false,
-        }
-    }
-
-    pub fn is_live(self) -> bool
-        ensures { λ r. ⌜ r ≡ isLive self ⌝ }
-    {
-        match self {
-            State::Free => false,
-            State::Running => true,
-            State::Blocked(_) => true,
-        }
-    }
-
-    pub fn is_running(self) -> bool
-        ensures { λ r. ⌜ r ≡ isRunning self ⌝ }
-    {
-        match self {
-            State::Free => false,
-            State::Running => true,
-            State::Blocked(_) => false,
-        }
-    }
-
-    pub fn is_blocked(self) -> bool
-        ensures { λ r. ⌜ r ≡ isBlocked self ⌝ }
-    {
-        match self {
-            State::Free => false,
-            State::Running => false,
-            State::Blocked(_) => true,
-        }
-    }
 }
 
 impl Table {

@@ -1,34 +1,21 @@
-// Document 01, 'The ten calls': the tests of the rows, in their order. Each function answers the first refusal, or 0 where every test holds.
-use crate::answers::ALREADY_MEMBER;
-use crate::answers::CALLER_BLOCKED;
-use crate::answers::DONE;
-use crate::answers::IN_USE;
-use crate::answers::NO_PHASER;
-use crate::answers::NO_TASK;
-use crate::answers::NOT_BLOCKED;
-use crate::answers::NOT_MEMBER;
-use crate::answers::NOT_REACHED;
-use crate::answers::NOT_SOUND;
-use crate::answers::PHASE_TOO_LARGE;
-use crate::answers::TARGET_BLOCKED;
-use crate::table::LARGEST_PHASE;
-use crate::table::PhaserNo;
-use crate::table::State;
+// Document 01, 'The ten calls': what the rows see of a table, and the tests that need the whole of it.
 use crate::table::Table;
-use crate::table::TaskNo;
+use answers::DONE;
+use answers::IN_USE;
+use answers::NO_PHASER;
+use answers::NO_TASK;
+use answers::NOT_BLOCKED;
+use answers::NOT_REACHED;
+use answers::NOT_SOUND;
+use states::state::PhaserNo;
+use states::state::State;
+use states::state::TaskNo;
+use states::tests::Seen;
+use states::waiting::waits_at;
 ghost use mathlib.Core.Path.{_≡_};
 ghost use Prim.Native.Nat.{_<_};
-ghost use Rattle.hall.specs.Tests.{refusalOf, lowestFree, lowestUnopened, waitsAt, unused, endTaskTests, closePhaserTests, admitTests, memberTests, arriveTests, waitAtTests, releaseTests};
-
-fn waits_at(state: State, phaser: PhaserNo) -> bool
-    ensures { λ r. ⌜ r ≡ waitsAt state (phaser .0) ⌝ }
-{
-    match state {
-        State::Free => false,
-        State::Running => false,
-        State::Blocked(event) => event.phaser.0 == phaser.0,
-    }
-}
+ghost use Rattle.states.specs.Tests.{refusalOf};
+ghost use Rattle.hall.specs.Tests.{lowestFree, lowestUnopened, unused, seenAt, closePhaserTests, releaseTests};
 
 impl Table {
     // The lowest free task number, or 32.
@@ -83,21 +70,17 @@ impl Table {
         true
     }
 
-    // The beginning of most rows: a sound table, a running task.
-    pub(crate) fn running_refusal(self, task: TaskNo) -> u32
-        ensures { λ r. ⌜ r ≡ refusalOf (endTaskTests self (task .0)) ⌝ }
+    // What a row sees of a task and a phaser.
+    pub(crate) fn seen(self, task: TaskNo, phaser: PhaserNo) -> Seen
+        ensures { λ r. ⌜ r ≡ seenAt self (task .0) (phaser .0) ⌝ }
     {
-        if !self.is_sound() {
-            return NOT_SOUND;
+        Seen {
+            sound: self.is_sound(),
+            state: self.state_at(task),
+            opened: self.open_at(phaser),
+            member: self.member_at(task, phaser),
+            phase: self.phase_at(task, phaser),
         }
-        let state = self.state_at(task);
-        if !state.is_live() {
-            return NO_TASK;
-        }
-        if !state.is_running() {
-            return CALLER_BLOCKED;
-        }
-        DONE
     }
 
     pub(crate) fn close_phaser_refusal(self, phaser: PhaserNo) -> u32
@@ -111,73 +94,6 @@ impl Table {
         }
         if !self.unused(phaser) {
             return IN_USE;
-        }
-        DONE
-    }
-
-    pub(crate) fn member_refusal(self, task: TaskNo, phaser: PhaserNo) -> u32
-        ensures { λ r. ⌜ r ≡ refusalOf (memberTests self (task .0) (phaser .0)) ⌝ }
-    {
-        let refusal = self.running_refusal(task);
-        if refusal != DONE {
-            return refusal;
-        }
-        if !self.open_at(phaser) {
-            return NO_PHASER;
-        }
-        if !self.member_at(task, phaser) {
-            return NOT_MEMBER;
-        }
-        DONE
-    }
-
-    pub(crate) fn admit_refusal(self, caller: TaskNo, phaser: PhaserNo, target: TaskNo) -> u32
-        ensures { λ r. ⌜ r ≡ refusalOf (admitTests self (caller .0) (phaser .0) (target .0)) ⌝ }
-    {
-        let refusal = self.member_refusal(caller, phaser);
-        if refusal != DONE {
-            return refusal;
-        }
-        let state = self.state_at(target);
-        if !state.is_live() {
-            return NO_TASK;
-        }
-        if state.is_blocked() {
-            return TARGET_BLOCKED;
-        }
-        if self.member_at(target, phaser) {
-            return ALREADY_MEMBER;
-        }
-        DONE
-    }
-
-    pub(crate) fn arrive_refusal(self, task: TaskNo, phaser: PhaserNo) -> u32
-        ensures { λ r. ⌜ r ≡ refusalOf (arriveTests self (task .0) (phaser .0)) ⌝ }
-    {
-        let refusal = self.member_refusal(task, phaser);
-        if refusal != DONE {
-            return refusal;
-        }
-        let phase = self.phase_at(task, phaser);
-        if phase.0 >= LARGEST_PHASE {
-            return PHASE_TOO_LARGE;
-        }
-        DONE
-    }
-
-    pub(crate) fn wait_at_refusal(self, task: TaskNo, phaser: PhaserNo, stated: u64) -> u32
-        ensures { λ r. ⌜ r ≡ refusalOf (waitAtTests self (task .0) (phaser .0) stated) ⌝ }
-    {
-        let refusal = self.running_refusal(task);
-        if refusal != DONE {
-            return refusal;
-        }
-        let open = self.open_at(phaser);
-        if !open {
-            return NO_PHASER;
-        }
-        if stated > LARGEST_PHASE as u64 {
-            return PHASE_TOO_LARGE;
         }
         DONE
     }

@@ -1,36 +1,70 @@
-// Document 01, 'Stuck': who impedes an event, and whether every member has reached it.
-use crate::table::Event;
-use crate::table::Phase;
+// Document 01, 'Stuck': who is blocked, who impedes whom, and whether every member has reached an event.
 use crate::table::Table;
+use states::state::Event;
+use states::waiting::column;
+use states::waiting::event_of;
+use states::waiting::impedes;
 ghost use mathlib.Core.Path.{_≡_};
-ghost use Rattle.hall.specs.Waiting.{behind, reachedOf};
-
-// "A member with a phase less than n impedes event (p, n). Equal does not impede."
-pub fn behind(member: bool, phase: Phase, awaited: Phase) -> bool
-    ensures { λ r. ⌜ r ≡ behind member (phase .0) (awaited .0) ⌝ }
-{
-    member && phase.0 < awaited.0
-}
+ghost use Rattle.hall.specs.Parts.{BlockedSet, RowsOf};
+ghost use Rattle.hall.specs.Waiting.{reachedOf};
 
 impl Table {
     // Whether nobody impedes an event.
     pub fn reached(self, event: Event) -> bool
         ensures { λ r. ⌜ r ≡ reachedOf self event ⌝ }
     {
-        let p = event.phaser.0;
-        let awaited = event.phase;
-        if p >= 16 {
-            return true;
-        }
-        let column = p as usize;
+        let place = column(event);
         let mut k: usize = 0;
         while k < 32 {
-            let i = k * 16 + column;
-            if behind(self.members[i], self.phases[i], awaited) {
+            let i = k * 16 + place;
+            if impedes(self.members[i], self.phases[i], event) {
                 return false;
             }
             k += 1;
         }
         true
+    }
+
+    // The blocked tasks. What is left is cut down to what is kept so that the loop's length is not known when compiled: a loop of known length is
+    // unrolled, and breaks the table into pieces that are copied one by one.
+    pub fn blocked(self) -> u32
+        ensures { λ r. ⌜ BlockedSet self r ⌝ }
+    {
+        let mut set: u32 = 0xffff_ffff;
+        let mut left: u32 = 0xffff_ffff;
+        while left != 0 {
+            let t = sets::lowest(left);
+            let task = self.tasks[t];
+            let state = task.state;
+            set = sets::kept(set, t, state.is_blocked());
+            left = sets::common(sets::take(left, t), set);
+        }
+        set
+    }
+
+    // For each of `among`, those of `among` that impede its event.
+    pub fn edges(self, among: u32) -> [u32; 32]
+        ensures { λ r. ⌜ RowsOf self among r ⌝ }
+    {
+        let mut rows = [0u32; 32];
+        let mut todo = among;
+        while todo != 0 {
+            let t = sets::lowest(todo);
+            let task = self.tasks[t];
+            let event = event_of(task);
+            let place = column(event);
+            let mut impeders = among;
+            let mut left = among;
+            while left != 0 {
+                let u = sets::lowest(left);
+                let at = u * 16 + place;
+                let phase = self.phases[at];
+                impeders = sets::kept(impeders, u, impedes(self.members[at], phase, event));
+                left = sets::take(left, u);
+            }
+            rows[t] = impeders;
+            todo = sets::take(todo, t);
+        }
+        rows
     }
 }

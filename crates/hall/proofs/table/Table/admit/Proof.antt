@@ -1,13 +1,36 @@
-use mathlib.Core.Path.{_≡_, sym, _∙_}
+use mathlib.Core.Path.{_≡_, refl, sym, _∙_}
 use Rattle.hall.specs.Calls.{ruled, admitOf}
-use Rattle.hall.specs.Tests.{refusalOf, admitTests}
-use Rattle.hall.proofs.Refusals.{ruled-refused, admit-below}
+use Rattle.hall.specs.Table.{stateAt, memberAt}
+use Rattle.hall.specs.Tests.{seenAt}
+use mathlib.Core.List.{List}
+use Rattle.states.specs.Tests.{Test, refusalOf, admitTests}
+use Rattle.hall.proofs.Ruled.{ruled-refused, admit-in-range}
 use borrow.Author.Needs.{needs}
 use Rattle.hall.proofs.table.Table.admit.Statement.{statement}
 use Rattle.hall.proofs.table.Table.admit.Tie as tie
 
-passes : (c : tie.Else1) → refusalOf (admitTests (c .before .before .args .self) (c .before .before .args .caller .0) (c .before .before .args .phaser .0) (c .before .before .args .target .0)) ≡ 0
-passes c = sym (c .before .admit-refusal .ensures) ∙ c .if1 .left
+-- the row's tests, its refusal, and where it passes
+abbrev tests : tie.Start → List Test
+tests s =
+    admitTests (seenAt (s .args .self) (s .args .caller .0) (s .args .phaser .0)) (stateAt (s .args .self) (s .args .target .0))
+    (memberAt (s .args .self) (s .args .target .0) (s .args .phaser .0))
+
+row : (c : tie.After-admit-refusal) → c .admit-refusal .result ≡ refusalOf (tests (c .before .before .before .before))
+row c =
+    c .admit-refusal .ensures
+    ∙ rw (c .before .before .before .seen .ensures, c .before .before .state-at .ensures, c .before .member-at .ensures) refl
+
+passes : (c : tie.Else1) → refusalOf (tests (c .before .before .before .before .before)) ≡ 0
+passes c = sym (row (c .before)) ∙ c .if1 .left
+
+seen-requires : tie.Need-seen-requires
+seen-requires c κs = search needs
+
+state-at-requires : tie.Need-state-at-requires
+state-at-requires c κs = search needs
+
+member-at-requires : tie.Need-member-at-requires
+member-at-requires c κs = search needs
 
 admit-refusal-requires : tie.Need-admit-refusal-requires
 admit-refusal-requires c κs = search needs
@@ -17,13 +40,13 @@ refused-requires c κs = search needs
 
 returns : tie.Need-returns
 unfolding admitOf
-returns c = c .refused .ensures ∙ ruled-refused _ _ _ _ (c .before .before .admit-refusal .ensures) (c .before .if1 .taken)
+returns c = c .refused .ensures ∙ ruled-refused _ _ _ _ (row (c .before .before)) (c .before .if1 .taken)
 
 phase-at-requires : tie.Need-phase-at-requires
 phase-at-requires c κs = search needs
 
 with-entry-requires : tie.Need-with-entry-requires
-with-entry-requires c κs = admit-below _ _ _ _ (passes (c .before))
+with-entry-requires c κs = admit-in-range _ _ _ _ (passes (c .before))
 
 cast-called : tie.Need-cast-called
 cast-called c = search needs
@@ -33,12 +56,17 @@ called-requires c κs = search needs
 
 returns-2 : tie.Need-returns-2
 unfolding admitOf ruled
-returns-2 c = simp (passes (c .before .before .before .before), c .called .ensures, c .before .before .with-entry .ensures, c .before .before .before .phase-at .ensures)
+returns-2 c =
+    let at = c .before .before .before in
+    simp (passes (at .before), c .called .ensures, c .before .before .with-entry .ensures, at .phase-at .ensures)
 
 pub admit-spec : {M : Type 1} → statement M
 admit-spec =
     tie.close
     (tie.spec
+    seen-requires
+    state-at-requires
+    member-at-requires
     admit-refusal-requires
     refused-requires
     returns

@@ -1,14 +1,26 @@
-use mathlib.Core.Path.{_≡_, sym, _∙_}
+use mathlib.Core.Path.{_≡_, ap, sym, _∙_}
 use native.Mathlib.Omega.{arith}
+use mathlib.Core.List.{List}
+use Rattle.states.specs.Tests.{Test, refusalOf, arriveTests}
 use Rattle.hall.specs.Calls.{ruled, arriveOf}
-use Rattle.hall.specs.Tests.{refusalOf, arriveTests}
-use Rattle.hall.proofs.Refusals.{ruled-refused, arrive-below}
+use Rattle.hall.specs.Tests.{seenAt}
+use Rattle.hall.proofs.Ruled.{ruled-refused, arrive-in-range}
 use borrow.Author.Needs.{needs}
 use Rattle.hall.proofs.table.Table.arrive.Statement.{statement}
 use Rattle.hall.proofs.table.Table.arrive.Tie as tie
 
-passes : (c : tie.Else1) → refusalOf (arriveTests (c .before .before .args .self) (c .before .before .args .task .0) (c .before .before .args .phaser .0)) ≡ 0
-passes c = sym (c .before .arrive-refusal .ensures) ∙ c .if1 .left
+-- the row's tests, its refusal, and where it passes
+abbrev tests : tie.Start → List Test
+tests s = arriveTests (seenAt (s .args .self) (s .args .task .0) (s .args .phaser .0))
+
+row : (c : tie.After-arrive-refusal) → c .arrive-refusal .result ≡ refusalOf (tests (c .before .before))
+row c = c .arrive-refusal .ensures ∙ ap (λ s. refusalOf (arriveTests s)) (c .before .seen .ensures)
+
+passes : (c : tie.Else1) → refusalOf (tests (c .before .before .before)) ≡ 0
+passes c = sym (row (c .before)) ∙ c .if1 .left
+
+seen-requires : tie.Need-seen-requires
+seen-requires c κs = search needs
 
 arrive-refusal-requires : tie.Need-arrive-refusal-requires
 arrive-refusal-requires c κs = search needs
@@ -18,16 +30,16 @@ refused-requires c κs = search needs
 
 returns : tie.Need-returns
 unfolding arriveOf
-returns c = c .refused .ensures ∙ ruled-refused _ _ _ _ (c .before .before .arrive-refusal .ensures) (c .before .if1 .taken)
+returns c = c .refused .ensures ∙ ruled-refused _ _ _ _ (row (c .before .before)) (c .before .if1 .taken)
 
 phase-at-requires : tie.Need-phase-at-requires
 phase-at-requires c κs = search needs
 
 add-higher : tie.Need-add-higher
-add-higher c = omega (arith, arrive-below _ _ _ (passes (c .before)), c .phase-at .ensures)
+add-higher c = omega (arith, arrive-in-range _ _ _ (passes (c .before)), c .phase-at .ensures)
 
 with-entry-requires : tie.Need-with-entry-requires
-with-entry-requires c κs = arrive-below _ _ _ (passes (c .before)) .0
+with-entry-requires c κs = arrive-in-range _ _ _ (passes (c .before)) .0
 
 cast-called : tie.Need-cast-called
 cast-called c = search needs
@@ -43,6 +55,7 @@ pub arrive-spec : {M : Type 1} → statement M
 arrive-spec =
     tie.close
     (tie.spec
+    seen-requires
     arrive-refusal-requires
     refused-requires
     returns

@@ -1,7 +1,8 @@
 use mathlib.Core.Path.{_≡_, sym, _∙_}
 use Rattle.hall.specs.Calls.{ruled, closePhaserOf}
-use Rattle.hall.specs.Tests.{refusalOf, closePhaserTests}
-use Rattle.hall.proofs.Refusals.{ruled-refused, close-below}
+use Rattle.states.specs.Tests.{refusalOf}
+use Rattle.hall.specs.Tests.{closePhaserTests}
+use Rattle.hall.proofs.Ruled.{ruled-refused, close-in-range}
 use borrow.Author.Needs.{needs}
 use Rattle.hall.proofs.table.Table.close_phaser.Statement.{statement}
 use Rattle.hall.proofs.table.Table.close_phaser.Tie as tie
@@ -20,7 +21,7 @@ unfolding closePhaserOf
 returns c = c .refused .ensures ∙ ruled-refused _ _ _ _ (c .before .before .close-phaser-refusal .ensures) (c .before .if1 .taken)
 
 with-open-requires : tie.Need-with-open-requires
-with-open-requires c κs = close-below _ _ (passes c)
+with-open-requires c κs = close-in-range _ _ (passes c)
 
 called-requires : tie.Need-called-requires
 called-requires c κs = search needs

@@ -1,9 +1,10 @@
 use mathlib.Core.Path.{_≡_, sym, _∙_}
 use mathlib.Core.Bool.{true}
 use borrow.Author.Tests.{not-true, not-false}
-use Rattle.hall.specs.Sound.{soundOf}
+use Rattle.hall.specs.Parts.{soundOf}
 use Rattle.hall.specs.Table.{openAt}
-use Rattle.hall.specs.Tests.{refusalOf, closePhaserTests}
+use Rattle.states.specs.Tests.{refusalOf}
+use Rattle.hall.specs.Tests.{closePhaserTests}
 use Rattle.hall.proofs.Places.{open-below}
 use borrow.Author.Needs.{needs}
 use Rattle.hall.proofs.table.Table.close_phaser_refusal.Statement.{statement}

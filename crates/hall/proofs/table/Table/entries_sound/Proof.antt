@@ -5,7 +5,7 @@ use Prim.Native.Nat.{_≤_, _-_}
 use native.Mathlib.Omega.{arith}
 use borrow.Author.Tests.{not-true, not-false}
 use Rattle.hall.specs.Every.{every}
-use Rattle.hall.specs.Sound.{entriesSound}
+use Rattle.hall.specs.Parts.{entriesSound}
 use Rattle.hall.proofs.Every.{every-none, every-more, every-not}
 use Rattle.hall.proofs.Places.{entryTest, entry-test}
 use borrow.Author.Needs.{needs}
@@ -45,8 +45,9 @@ entry-sound-requires c κs = tt
 returns : tie.Need-returns Inv-loop μ-loop
 unfolding entriesSound
 returns c =
+    let loop = c .before .before .before .before .before .before .before in
     sym
-    (every-not (entryTest (c .before .before .before .before .before .before .before .before .args .t1)) 512 (c .before .before .before .before .before .before .before .loop .i) (search needs)
+    (every-not (entryTest (loop .before .args .t1)) 512 (loop .loop .i) (search needs)
     (entry-test _ _ (search needs) ∙ sym (c .before .entry-sound .ensures) ∙ not-true _ (c .if1 .taken)))
 
 add-i : tie.Need-add-i Inv-loop μ-loop

@@ -1,4 +1,4 @@
-use Rattle.hall.specs.Sound.{soundOf}
+use Rattle.hall.specs.Parts.{soundOf}
 use borrow.Author.Needs.{needs}
 use Rattle.hall.proofs.table.Table.is_sound.Statement.{statement}
 use Rattle.hall.proofs.table.Table.is_sound.Tie as tie

@@ -1,13 +1,25 @@
-use mathlib.Core.Path.{_≡_, sym, _∙_}
+use mathlib.Core.Path.{_≡_, ap, sym, _∙_}
+use mathlib.Core.List.{List}
+use Rattle.states.specs.Tests.{Test, refusalOf, memberTests}
 use Rattle.hall.specs.Calls.{ruled, leaveOf}
-use Rattle.hall.specs.Tests.{refusalOf, memberTests}
-use Rattle.hall.proofs.Refusals.{ruled-refused, member-below}
+use Rattle.hall.specs.Tests.{seenAt}
+use Rattle.hall.proofs.Ruled.{ruled-refused, member-in-range}
 use borrow.Author.Needs.{needs}
 use Rattle.hall.proofs.table.Table.leave.Statement.{statement}
 use Rattle.hall.proofs.table.Table.leave.Tie as tie
 
-passes : (c : tie.Else1) → refusalOf (memberTests (c .before .before .args .self) (c .before .before .args .task .0) (c .before .before .args .phaser .0)) ≡ 0
-passes c = sym (c .before .member-refusal .ensures) ∙ c .if1 .left
+-- the row's tests, its refusal, and where it passes
+abbrev tests : tie.Start → List Test
+tests s = memberTests (seenAt (s .args .self) (s .args .task .0) (s .args .phaser .0))
+
+row : (c : tie.After-member-refusal) → c .member-refusal .result ≡ refusalOf (tests (c .before .before))
+row c = c .member-refusal .ensures ∙ ap (λ s. refusalOf (memberTests s)) (c .before .seen .ensures)
+
+passes : (c : tie.Else1) → refusalOf (tests (c .before .before .before)) ≡ 0
+passes c = sym (row (c .before)) ∙ c .if1 .left
+
+seen-requires : tie.Need-seen-requires
+seen-requires c κs = search needs
 
 member-refusal-requires : tie.Need-member-refusal-requires
 member-refusal-requires c κs = search needs
@@ -17,10 +29,10 @@ refused-requires c κs = search needs
 
 returns : tie.Need-returns
 unfolding leaveOf
-returns c = c .refused .ensures ∙ ruled-refused _ _ _ _ (c .before .before .member-refusal .ensures) (c .before .if1 .taken)
+returns c = c .refused .ensures ∙ ruled-refused _ _ _ _ (row (c .before .before)) (c .before .if1 .taken)
 
 with-entry-requires : tie.Need-with-entry-requires
-with-entry-requires c κs = member-below _ _ _ (passes c)
+with-entry-requires c κs = member-in-range _ _ _ (passes c)
 
 called-requires : tie.Need-called-requires
 called-requires c κs = search needs
@@ -33,6 +45,7 @@ pub leave-spec : {M : Type 1} → statement M
 leave-spec =
     tie.close
     (tie.spec
+    seen-requires
     member-refusal-requires
     refused-requires
     returns

@@ -3,7 +3,8 @@ use mathlib.Core.Path.{_≡_, sym, _∙_, ap, refl}
 use Prim.Native.Nat.{_≤_, _-_}
 use native.Mathlib.Omega.{arith}
 use Rattle.hall.specs.Every.{lowestFrom}
-use Rattle.hall.specs.Table.{stateAt, isFree}
+use Rattle.hall.specs.Table.{stateAt}
+use Rattle.states.specs.State.{isFree}
 use Rattle.hall.specs.Tests.{lowestFree}
 use Rattle.hall.proofs.Every.{lowest-here, lowest-on}
 use Rattle.hall.proofs.Places.{state-in}

@@ -2,8 +2,9 @@ use mathlib.Core.Path.{_≡_, sym, _∙_}
 use mathlib.Core.Bool.{true}
 use borrow.Author.Tests.{not-true, not-false, lt-ltb, le-ltb}
 use Rattle.hall.specs.Calls.{ruled, openTaskOf}
-use Rattle.hall.specs.Sound.{soundOf}
-use Rattle.hall.specs.Tests.{refusalOf, openTaskTests}
+use Rattle.hall.specs.Parts.{soundOf}
+use Rattle.states.specs.Tests.{refusalOf}
+use Rattle.hall.specs.Tests.{openTaskTests}
 use borrow.Author.Needs.{needs}
 use Rattle.hall.proofs.table.Table.open_task.Statement.{statement}
 use Rattle.hall.proofs.table.Table.open_task.Tie as tie

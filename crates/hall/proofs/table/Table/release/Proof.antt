@@ -1,7 +1,8 @@
 use mathlib.Core.Path.{_≡_, sym, _∙_}
 use Rattle.hall.specs.Calls.{ruled, releaseOf}
-use Rattle.hall.specs.Tests.{refusalOf, releaseTests}
-use Rattle.hall.proofs.Refusals.{ruled-refused, release-below}
+use Rattle.states.specs.Tests.{refusalOf}
+use Rattle.hall.specs.Tests.{releaseTests}
+use Rattle.hall.proofs.Ruled.{ruled-refused, release-in-range}
 use borrow.Author.Needs.{needs}
 use Rattle.hall.proofs.table.Table.release.Statement.{statement}
 use Rattle.hall.proofs.table.Table.release.Tie as tie
@@ -20,7 +21,7 @@ unfolding releaseOf
 returns c = c .refused .ensures ∙ ruled-refused _ _ _ _ (c .before .before .release-refusal .ensures) (c .before .if1 .taken)
 
 with-state-requires : tie.Need-with-state-requires
-with-state-requires c κs = release-below _ _ (passes c)
+with-state-requires c κs = release-in-range _ _ (passes c)
 
 called-requires : tie.Need-called-requires
 called-requires c κs = search needs

@@ -1,8 +1,9 @@
 use mathlib.Core.Path.{_≡_, sym, _∙_}
 use mathlib.Core.Bool.{true}
 use borrow.Author.Tests.{not-true, not-false}
-use Rattle.hall.specs.Sound.{soundOf}
-use Rattle.hall.specs.Tests.{refusalOf, releaseTests}
+use Rattle.hall.specs.Parts.{soundOf}
+use Rattle.states.specs.Tests.{refusalOf}
+use Rattle.hall.specs.Tests.{releaseTests}
 use borrow.Author.Needs.{needs}
 use Rattle.hall.proofs.table.Table.release_refusal.Statement.{statement}
 use Rattle.hall.proofs.table.Table.release_refusal.Tie as tie

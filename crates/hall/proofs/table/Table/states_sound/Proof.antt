@@ -1,12 +1,15 @@
 -- Every state below k is sound.
-use mathlib.Core.Path.{_≡_, sym, _∙_, ap, refl}
+use mathlib.Core.Path.{_≡_, sym, _∙_, ap}
 use mathlib.Core.Bool.{Bool, true}
-use Prim.Native.Nat.{ℕ, _≤_, _-_}
+use Prim.Native.Nat.{ℕ, _≤_, _-_, _<_}
 use native.Mathlib.Omega.{arith}
 use borrow.Author.Tests.{not-true, not-false}
 use Rattle.hall.specs.Every.{every}
-use Rattle.hall.specs.Sound.{stateSound, statesSound}
-use Rattle.hall.specs.Table.{stateAt}
+use lib.ListN.{getD}
+use Rattle.states.specs.Parts.{openIn, stateSound}
+use Rattle.states.specs.State.{freeTask}
+use Rattle.hall.specs.Parts.{statesSound}
+use Rattle.hall.specs.Table.{stateAt, openAt}
 use Rattle.hall.proofs.Every.{every-none, every-more, every-not}
 use Rattle.hall.proofs.Places.{state-in}
 use Rattle.hall.specs.declared.table.Table.{Table}
@@ -15,7 +18,12 @@ use Rattle.hall.proofs.table.Table.states_sound.Statement.{statement}
 use Rattle.hall.proofs.table.Table.states_sound.Tie as tie
 
 abbrev stateTest : Table → ℕ → Bool
-stateTest t k = stateSound t (stateAt t k)
+stateTest t k = stateSound (openAt t) (stateAt t k)
+
+-- as the code reads it
+state-read : (t : Table) (k : ℕ) → k < 32 → stateTest t k ≡ stateSound (openIn (t .opened)) (getD (t .tasks) k freeTask .state)
+unfolding openAt
+state-read t k l = ap (stateSound (openIn (t .opened))) (state-in t k l)
 
 abbrev Inv-loop : tie.InvT-loop
 Inv-loop self opened k₀ k = (k ≤ 32) × (every (stateTest self) k ≡ true)
@@ -40,7 +48,7 @@ unfolding statesSound
 returns c =
     sym
     (every-not (stateTest (c .before .before .before .before .before .before .args .t1)) 32 (c .before .before .before .before .loop .k) (search needs)
-    (ap (stateSound _) (state-in _ _ (search needs)) ∙ sym (c .before .state-sound .ensures _ refl) ∙ not-true _ (c .if1 .taken)))
+    (state-read _ _ (search needs) ∙ sym (c .before .state-sound .ensures) ∙ not-true _ (c .if1 .taken)))
 
 add-k : tie.Need-add-k Inv-loop μ-loop
 add-k c = search needs
@@ -52,7 +60,7 @@ loop-again : tie.Need-loop-again Inv-loop μ-loop
 loop-again c = (
   search needs,
   every-more _ _ (c .before .before .before .before .loop .inv .1)
-      (ap (stateSound _) (state-in _ _ (search needs)) ∙ sym (c .before .state-sound .ensures _ refl) ∙ not-false _ (c .if1 .left)),
+      (state-read _ _ (search needs) ∙ sym (c .before .state-sound .ensures) ∙ not-false _ (c .if1 .left)),
 )
 
 returns-2 : tie.Need-returns-2 Inv-loop μ-loop

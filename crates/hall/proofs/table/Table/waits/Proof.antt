@@ -1,6 +1,6 @@
 use mathlib.Core.Path.{sym, _∙_, ap}
 use Rattle.hall.specs.Calls.{called}
-use Rattle.hall.proofs.Refusals.{waits-passed, waits-blocked}
+use Rattle.hall.proofs.Ruled.{waits-passed, waits-blocked}
 use borrow.Author.Needs.{needs}
 use Rattle.hall.proofs.table.Table.waits.Statement.{statement}
 use Rattle.hall.proofs.table.Table.waits.Tie as tie
