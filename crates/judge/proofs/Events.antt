@@ -1,5 +1,5 @@
 -- The event route: events that nobody left impedes are taken out, each with all who await it.
-use mathlib.Core.Path.{_≡_, sym, _∙_, subst}
+use mathlib.Core.Path.{_≡_, sym, ap, _∙_, subst}
 use mathlib.Core.Bool.{true}
 use mathlib.Core.Logic.{_↔_}
 use Prim.Native.Nat.{ℕ, _^_, _<_}
@@ -10,13 +10,16 @@ use Rattle.sets.proofs.Members.{Within, has-dec, some-has, none-has, within-lt}
 use Rattle.sets.proofs.Loops.{Sifted, sift-done}
 use Rattle.deadlock.specs.Waiting.{EventEdge, EventNamed}
 use Rattle.deadlock.proofs.Walks.{first, rest, follow}
-use Rattle.hall.specs.Table.{freeTask, isBlocked, stateAt}
+use Rattle.states.specs.Parts.{eventOf}
+use Rattle.states.specs.State.{freeTask, isBlocked}
+use Rattle.states.specs.Waiting.{Awaited}
+use Rattle.states.proofs.Events.{is-blocked, one-awaited, event-is}
+use Rattle.hall.specs.Parts.{BlockedSet}
+use Rattle.hall.specs.Table.{stateAt}
 use Rattle.hall.specs.Waiting.{BlockedOn, Impedes}
-use Rattle.hall.specs.declared.table.Event.{Event}
 use Rattle.hall.specs.declared.table.Table.{Table}
+use Rattle.hall.proofs.Looking.{event-read}
 use Rattle.judge.specs.Routes.{EventRoute}
-use Rattle.judge.specs.Loops.{BlockedSet, eventOf}
-use Rattle.judge.proofs.States.{blocked-inv, blocked-of, one-event, event-is, event-read}
 
 module _ (t : Table) where
   abbrev Named : ℕ → Type 0
@@ -29,7 +32,7 @@ module _ (t : Table) where
     pub within : Within todo left
     pub blocked : (k : ℕ) → Has left k → isBlocked (stateAt t k) ≡ true
     pub covers : (k : ℕ) → Named k → Has left k
-    pub held : (k : ℕ) → Has left k → (Has todo k → ⊥) → (e : Event) → BlockedOn t k e → (u : ℕ) × Has left u × Impedes t u e
+    pub held : (k : ℕ) → Has left k → (Has todo k → ⊥) → (e : Awaited) → BlockedOn t k e → (u : ℕ) × Has left u × Impedes t u e
 
   pub search-start : (m : ℕ) → m < 2 ^ 32 → BlockedSet t m → Searched m m
   search-start m f b = record {
@@ -37,22 +40,22 @@ module _ (t : Table) where
     fits-todo = f;
     within = λ k h. h;
     blocked = λ k h. b .iff k .0 h;
-    covers = λ k w. b .iff k .1 (blocked-of (stateAt t k) (w .event) (w .waits));
+    covers = λ k w. b .iff k .1 (ap isBlocked (w .waits));
     held = λ k h n. absurd (n h);
   }
 
   -- the lowest of `todo` stands for its event: who impedes it and who awaits it, among those who are left
-  pub record Looked (left todo k : ℕ) (e : Event) (impeders waiters : ℕ) : Type 0 where
+  pub record Looked (left todo k : ℕ) (e : Awaited) (impeders waiters : ℕ) : Type 0 where
     pub near : k < 32
     pub here : Has todo k
     pub event : e ≡ eventOf (getD (t .tasks) k freeTask .state)
     pub impede : Sifted (λ u. Impedes t u e) left impeders 0
     pub await : Sifted (λ u. BlockedOn t u e) left waiters 0
 
-  module _ (left todo : ℕ) (g : Searched left todo) (k : ℕ) (e : Event) (impeders waiters : ℕ) (s : Looked left todo k e impeders waiters) where
+  module _ (left todo : ℕ) (g : Searched left todo) (k : ℕ) (e : Awaited) (impeders waiters : ℕ) (s : Looked left todo k e impeders waiters) where
     awaits : BlockedOn t k e
     awaits =
-        let b = blocked-inv (stateAt t k) (g .blocked k (g .within k (s .here))) in
+        let b = is-blocked (stateAt t k) (g .blocked k (g .within k (s .here))) in
         subst (BlockedOn t k) (sym (event-read t k (s .near) e (s .event) ∙ event-is (stateAt t k) (b .0) (b .1))) (b .1)
 
     impedes : (u : ℕ) → Has impeders u ↔ (Has left u × Impedes t u e)
@@ -80,12 +83,12 @@ module _ (t : Table) where
             by-some : (u : ℕ) × Has left u × Impedes t u e
             by-some = let u = some-has 32 impeders fi (omega arith) in let q = impedes (u .0) .0 (u .1) in (u .0, q .0, q .1)
 
-            held : (j : ℕ) → Has left j → (Has r j → ⊥) → Dec (Has todo j) → Dec (Has waiters j) → (d : Event) → BlockedOn t j d
+            held : (j : ℕ) → Has left j → (Has r j → ⊥) → Dec (Has todo j) → Dec (Has waiters j) → (d : Awaited) → BlockedOn t j d
                 → (u : ℕ) × Has left u × Impedes t u d
             held j p n (no q) w d b = g .held j p q d b
             held j p n (yes q) (no w) d b = absurd (n (less j .1 (q, w)))
             held j p n (yes q) (yes w) d b =
-                let e-is = one-event (stateAt t j) e d (waits j .0 w .1) b in
+                let e-is = one-awaited (stateAt t j) e d (waits j .0 w .1) b in
                 let u = by-some in
                 (u .0, u .1, subst (Impedes t (u .0)) e-is (u .2))
 
@@ -109,25 +112,25 @@ module _ (t : Table) where
             loose j w b =
                 let d = first (w .walk) in
                 let u = g .covers (d .task) (record { event = w .walk .at 1; waits = d .blocked; walk = rest (w .walk) }) in
-                let i = subst (Impedes t (d .task)) (one-event (stateAt t j) (w .event) e (w .waits) b) (d .impedes) in
+                let i = subst (Impedes t (d .task)) (one-awaited (stateAt t j) (w .event) e (w .waits) b) (d .impedes) in
                 none-has (d .task) (rw none at (impedes (d .task) .1 (u, i)))
 
         pub drop-less : r < left
         drop-less = within-lt 32 r left k f (λ j p. less j .0 p .0) (g .within k (s .here)) (λ p. less k .0 p .1 mine)
 
-  abbrev AwaitedBy : ℕ → Event → Type 0
+  abbrev AwaitedBy : ℕ → Awaited → Type 0
   AwaitedBy m e = (k : ℕ) × Has m k × BlockedOn t k e
 
   pub search-done : (m : ℕ) → Searched m 0 → EventRoute t m
   search-done m g = record { iff = λ k. (walks k, g .covers k) }
     where
-      next : (e : Event) → AwaitedBy m e → (f : Event) × AwaitedBy m f × EventEdge (BlockedOn t) (Impedes t) e f
+      next : (e : Awaited) → AwaitedBy m e → (f : Awaited) × AwaitedBy m f × EventEdge (BlockedOn t) (Impedes t) e f
       next e r =
           let h = g .held (r .0) (r .1) (none-has (r .0)) e (r .2) in
-          let b = blocked-inv (stateAt t (h .0)) (g .blocked (h .0) (h .1)) in
+          let b = is-blocked (stateAt t (h .0)) (g .blocked (h .0) (h .1)) in
           (b .0, (h .0, h .1, b .1), record { task = h .0; impedes = h .2; blocked = b .1 })
 
       walks : (k : ℕ) → Has m k → Named k
       walks k h =
-          let b = blocked-inv (stateAt t k) (g .blocked k h) in
+          let b = is-blocked (stateAt t k) (g .blocked k h) in
           record { event = b .0; waits = b .1; walk = follow (EventEdge (BlockedOn t) (Impedes t)) (AwaitedBy m) next (b .0) (k, h, b .1) }

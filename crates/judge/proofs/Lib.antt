@@ -1,6 +1,3 @@
-pub mod States
-pub mod Sets
-pub mod Rows
 pub mod Events
 pub mod Tasks
 pub mod Named

@@ -4,13 +4,12 @@ use mathlib.Core.Logic.{_↔_}
 use Prim.Native.Nat.{ℕ, zero, suc, _≤_}
 use native.Mathlib.Omega.{arith}
 use Rattle.sets.specs.Set.{Has}
+use Rattle.sets.proofs.Widths.{same-members}
 use Rattle.deadlock.specs.Waiting.{TaskNamed, EventNamed, Stuck}
 use Rattle.deadlock.proofs.Theory.{named-events, events-named, named-held, named-set-stuck, events-set-named}
-use Rattle.hall.specs.Waiting.{BlockedOn, Impedes}
+use Rattle.hall.specs.Waiting.{BlockedOn, Impedes, ImpedesTask}
 use Rattle.hall.specs.declared.table.Table.{Table}
-use Rattle.judge.specs.Routes.{TaskRoute, EventRoute}
-use Rattle.judge.specs.Verdict.{ImpedesTask}
-use Rattle.sets.proofs.Widths.{same-members}
+use Rattle.judge.specs.Routes.{largestRoute, TaskRoute, EventRoute}
 
 module _ (t : Table) where
   -- ---- demand 2: the named set is the set of tasks that some totally deadlocked set holds
@@ -31,16 +30,16 @@ module _ (t : Table) where
   pub event-one : (a b : ℕ) → EventRoute t a → EventRoute t b → a ≡ b
   event-one a b x y = same-members (EventNamed (BlockedOn t) (Impedes t)) a b (x .iff) (y .iff)
 
-  pub routes-one : (a b : ℕ) → TaskRoute t a → EventRoute t b → a ≡ b
-  routes-one a b x y = task-one a b x (event-task b y)
+  pub sets-one : (a b : ℕ) → TaskRoute t a → EventRoute t b → a ≡ b
+  sets-one a b x y = task-one a b x (event-task b y)
 
   -- ---- what a route number says, by either route
-  pub by-route : (route m : ℕ) → route ≤ 1 → (route ≡ 0 → TaskRoute t m) → (route ≡ 1 → EventRoute t m) → TaskRoute t m
+  pub by-route : (route m : ℕ) → route ≤ largestRoute → (route ≡ 0 → TaskRoute t m) → (route ≡ 1 → EventRoute t m) → TaskRoute t m
   by-route zero m l x y = x refl
   by-route (suc n) m l x y = event-task m (y (omega arith))
 
   -- ---- a named task's event is impeded by a named task
-  pub named-impeded : (k : ℕ) → TaskNamed (BlockedOn t) (Impedes t) k → (u : ℕ) × TaskNamed (BlockedOn t) (Impedes t) u × ImpedesTask t k u
-  named-impeded k w =
+  pub named-next : (k : ℕ) → TaskNamed (BlockedOn t) (Impedes t) k → (u : ℕ) × TaskNamed (BlockedOn t) (Impedes t) u × ImpedesTask t k u
+  named-next k w =
       let h = named-held (BlockedOn t) (Impedes t) k w in
       (h .by, h .inside, record { event = h .event; waits = h .waits; impedes = h .impedes })

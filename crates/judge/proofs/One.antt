@@ -7,24 +7,32 @@ use native.Mathlib.Omega.{arith}
 use Rattle.sets.specs.Set.{Has}
 use Rattle.deadlock.specs.Ring.{RingIn}
 use Rattle.deadlock.proofs.One.{ring-in-one}
-use Rattle.hall.specs.Sound.{soundOf}
+use Rattle.hall.specs.Parts.{soundOf}
+use Rattle.hall.specs.Waiting.{ImpedesTask}
 use Rattle.hall.specs.declared.table.Table.{Table}
-use Rattle.judge.specs.Verdict.{ImpedesTask, verdictOf, Found, Judged}
+use Rattle.judge.specs.Routes.{largestRoute, TaskRoute}
+use Rattle.judge.specs.Verdict.{verdictOf, Found, Judged}
 use Rattle.judge.specs.declared.verdict.Verdict.{Verdict}
 use Rattle.judge.proofs.Named.{task-one, by-route}
 
 module _ (t : Table) where
-  pub found-one : (i j : ℕ) (v w : Verdict) → i ≤ 1 → j ≤ 1 → Found t i v → Found t j w → v ≡ w
+  pub found-one : (i j : ℕ) (v w : Verdict) → i ≤ largestRoute → j ≤ largestRoute → Found t i v → Found t j w → v ≡ w
   found-one i j v w li lj x y = x .verdict ∙ ap (λ m. verdictOf m (x .round)) same ∙ ap (verdictOf (y .named)) rounds ∙ sym (y .verdict)
     where
+      named : (route : ℕ) (u : Verdict) → route ≤ largestRoute → (z : Found t route u) → TaskRoute t (z .named)
+      named route u l z = by-route t route (z .named) l (z .by-tasks) (z .by-events)
+
       same : x .named ≡ y .named
-      same = task-one t (x .named) (y .named) (by-route t i (x .named) li (x .by-tasks) (x .by-events)) (by-route t j (y .named) lj (y .by-tasks) (y .by-events))
+      same = task-one t (x .named) (y .named) (named i v li x) (named j w lj y)
+
+      mine : RingIn (Has (y .named)) (ImpedesTask t) (x .round)
+      mine = subst (λ m. RingIn (Has m) (ImpedesTask t) (x .round)) same (x .ring)
 
       rounds : x .round ≡ y .round
-      rounds = ring-in-one (Has (y .named)) (ImpedesTask t) (x .round) (y .round) (subst (λ m. RingIn (Has m) (ImpedesTask t) (x .round)) same (x .ring)) (y .ring)
+      rounds = ring-in-one (Has (y .named)) (ImpedesTask t) (x .round) (y .round) mine (y .ring)
 
   -- by two routes that there are: demand 3, its first sentence, field by field
-  pub routes-agree : (i j : ℕ) (v w : Verdict) → i ≤ 1 → j ≤ 1 → Judged t i v → Judged t j w → v ≡ w
+  pub routes-agree : (i j : ℕ) (v w : Verdict) → i ≤ largestRoute → j ≤ largestRoute → Judged t i v → Judged t j w → v ≡ w
   routes-agree i j v w li lj x y = go (soundOf t) refl
     where
       go : (b : Bool) → soundOf t ≡ b → v ≡ w
@@ -32,8 +40,8 @@ module _ (t : Table) where
       go false e = x .unsound li e ∙ sym (y .unsound lj e)
 
   pub judged-one : (route : ℕ) (v w : Verdict) → Judged t route v → Judged t route w → v ≡ w
-  judged-one route v w x y = go (decLt 1 route)
+  judged-one route v w x y = go (decLt largestRoute route)
     where
-      go : Dec (1 < route) → v ≡ w
+      go : Dec (largestRoute < route) → v ≡ w
       go (yes l) = x .no-route l ∙ sym (y .no-route l)
       go (no l) = routes-agree route route v w (omega arith) (omega arith) x y

@@ -1,7 +1,8 @@
 -- The task route, and the ring: the rows are the edges of document 01.
-use mathlib.Core.Path.{_≡_, refl, sym, _∙_, subst}
+use mathlib.Core.Path.{_≡_, refl, sym, ap, _∙_, subst}
+use mathlib.Core.Bool.{true}
 use mathlib.Core.List.{List}
-use mathlib.Core.Logic.{_⊎_, inl, inr}
+use mathlib.Core.Logic.{_↔_, _⊎_, inl, inr}
 use Prim.Native.Nat.{ℕ, _+_, _^_, _≤_, _<_}
 use native.Mathlib.Decide.{decLt, ℕ-discrete}
 use native.Mathlib.Omega.{arith}
@@ -14,32 +15,36 @@ use Rattle.deadlock.specs.Walk.{Row, NamedBy}
 use Rattle.deadlock.specs.Waiting.{TaskEdge}
 use Rattle.deadlock.specs.Ring.{Step}
 use Rattle.deadlock.proofs.Walks.{along}
+use Rattle.states.specs.State.{isBlocked}
+use Rattle.states.proofs.Events.{is-blocked}
+use Rattle.hall.specs.Parts.{BlockedSet, RowsOf}
 use Rattle.hall.specs.Table.{stateAt}
-use Rattle.hall.specs.Waiting.{BlockedOn, Impedes}
+use Rattle.hall.specs.Waiting.{BlockedOn, Impedes, ImpedesTask}
 use Rattle.hall.specs.declared.table.Table.{Table}
+use Rattle.hall.proofs.Impeded.{blocked-below}
+use Rattle.judge.specs.Parts.{NextsOf}
 use Rattle.judge.specs.Routes.{TaskRoute}
-use Rattle.judge.specs.Verdict.{ImpedesTask}
-use Rattle.judge.specs.Loops.{BlockedSet, RowsOf, NextsOf}
-use Rattle.judge.proofs.States.{blocked-inv, blocked-of, blocked-lt}
 
--- ---- the rows among the blocked are the edges of the task route
-module _ (t : Table) (b : ℕ) (rows : List ℕ) (s : BlockedSet t b) (g : RowsOf t b rows) where
+-- ---- rows whose edges are those of the task route: u impedes what k awaits, and is blocked
+abbrev pub Edges : Table → List ℕ → Type 0
+Edges t rows = (k u : ℕ) → Row rows k u ↔ ((isBlocked (stateAt t u) ≡ true) × ImpedesTask t k u)
+
+-- such are the rows among the blocked
+pub blocked-edges : (t : Table) (b : ℕ) (rows : List ℕ) → BlockedSet t b → RowsOf t b rows → Edges t rows
+blocked-edges t b rows s g k u = (
+  λ r. let q = g .iff k u .0 (r .1) in (s .iff u .0 (q .1), q .2),
+  λ h. (blocked-below t k (h .1 .event) (h .1 .waits), g .iff k u .1 (s .iff k .1 (ap isBlocked (h .1 .waits)), s .iff u .1 (h .0), h .1)),
+)
+
+module _ (t : Table) (rows : List ℕ) (edges : Edges t rows) where
   row-edge : (k u : ℕ) → Row rows k u → TaskEdge (BlockedOn t) (Impedes t) k u
   row-edge k u r =
-      let q = g .iff k u .0 (r .1) in
-      let i = q .2 in
-      let o = blocked-inv (stateAt t u) (s .iff u .0 (q .1)) in
-      record { event = i .event; waits = i .waits; impedes = i .impedes; other = o .0; blocked = o .1 }
+      let q = edges k u .0 r in
+      let b = is-blocked (stateAt t u) (q .0) in
+      record { event = q .1 .event; waits = q .1 .waits; impedes = q .1 .impedes; other = b .0; blocked = b .1 }
 
   edge-row : (k u : ℕ) → TaskEdge (BlockedOn t) (Impedes t) k u → Row rows k u
-  edge-row k u e = (
-    blocked-lt t k (e .event) (e .waits),
-    g .iff k u .1 (
-      s .iff k .1 (blocked-of (stateAt t k) (e .event) (e .waits)),
-      s .iff u .1 (blocked-of (stateAt t u) (e .other) (e .blocked)),
-      record { event = e .event; waits = e .waits; impedes = e .impedes },
-    ),
-  )
+  edge-row k u e = edges k u .1 (ap isBlocked (e .blocked), record { event = e .event; waits = e .waits; impedes = e .impedes })
 
   pub route-named : (m : ℕ) → NamedBy (Row rows) m → TaskRoute t m
   route-named m n = record { iff = λ k. (λ h. along row-edge (n .iff k .0 h), λ w. n .iff k .1 (along edge-row w)) }
@@ -75,14 +80,17 @@ step-done rows next t g l = record { each = λ k h. g .each k (omega arith) }
 
 -- ---- the numbers that the code steps by are the steps of the ring walk
 module _ (t : Table) (m : ℕ) (f : m < 2 ^ 32) (rows next : List ℕ) (g : RowsOf t m rows) (n : NextsOf rows next) where
-  pub nexts-step : (k : ℕ) → Has m k
-      → Step (Has m) (ImpedesTask t) k (getD next k 0) ⊎ (((u : ℕ) → Has m u → ImpedesTask t k u → ⊥) × (Has m (getD next k 0) → ⊥))
+  -- there is a step and the number is it, or there is none and the number is no named task's
+  abbrev StepsBy : ℕ → Type 0
+  StepsBy k = Step (Has m) (ImpedesTask t) k (getD next k 0) ⊎ (((u : ℕ) → Has m u → ImpedesTask t k u → ⊥) × (Has m (getD next k 0) → ⊥))
+
+  pub nexts-step : (k : ℕ) → Has m k → StepsBy k
   nexts-step k h = go (decLt 0 (getD rows k 0))
     where
       low : LowestOf (getD rows k 0) (getD next k 0)
       low = n .each k (has-lt 32 m k f h)
 
-      go : Dec (0 < getD rows k 0) → Step (Has m) (ImpedesTask t) k (getD next k 0) ⊎ (((u : ℕ) → Has m u → ImpedesTask t k u → ⊥) × (Has m (getD next k 0) → ⊥))
+      go : Dec (0 < getD rows k 0) → StepsBy k
       go (yes p) = inl (least-along (λ u q. let r = g .iff k u .0 q in (r .1, r .2)) (λ u q. g .iff k u .1 (h, q .0, q .1)) (low .some p))
       go (no p) =
           inr (

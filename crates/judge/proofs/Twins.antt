@@ -2,7 +2,6 @@
 use mathlib.Core.Path.{_≡_, refl, ap, _∙_}
 use mathlib.Core.Bool.{Bool, true, _&&_, cond}
 use mathlib.Core.List.{List, [], _++_}
-use mathlib.Core.Logic.{_↔_}
 use Prim.Native.Nat.{ℕ, _+_, _-_, _^_, _<_}
 use native.Mathlib.Decide.{decLt}
 use native.Mathlib.Nat.{zero-add}
@@ -13,27 +12,31 @@ use borrow.Author.Tests.{lt-ltb, le-ltb}
 use Rattle.sets.specs.Set.{Has}
 use Rattle.sets.proofs.Members.{none-has}
 use Rattle.sets.proofs.Least.{least-along}
+use Rattle.sets.proofs.Masks.{maskOf, mask-has}
+use Rattle.sets.proofs.Widths.{members-fit}
 use Rattle.deadlock.specs.Walk.{Row, NamedBy}
-use Rattle.deadlock.specs.Waiting.{TaskEdge}
 use Rattle.deadlock.specs.Ring.{Step, Ring, RingIn, Comes, nobody, round}
 use Rattle.deadlock.specs.declared.ring.Round.{Round}
-use Rattle.deadlock.proofs.Walks.{first, along}
+use Rattle.deadlock.proofs.Walks.{first}
 use Rattle.deadlock.proofs.Found.{places, getD-places}
 use Rattle.deadlock.proofs.Moves.{ring-moves}
 use Rattle.deadlock.proofs.Twins.{namedOf, namedOf-named, ringOf, nextsOf, rows-ring}
-use Rattle.hall.specs.Answers.{notSound}
-use Rattle.hall.specs.Sound.{soundOf}
-use Rattle.hall.specs.Table.{isBlocked, stateAt}
-use Rattle.hall.specs.Waiting.{BlockedOn, Impedes, impedesOf}
+use Rattle.answers.specs.Answers.{notSound, noRoute}
+use Rattle.states.specs.Parts.{eventOf}
+use Rattle.states.specs.State.{isBlocked}
+use Rattle.states.proofs.Events.{is-blocked}
+use Rattle.states.proofs.Truth.{and-left, and-right}
+use Rattle.hall.specs.Parts.{soundOf}
+use Rattle.hall.specs.Table.{stateAt}
+use Rattle.hall.specs.Waiting.{impedesOf, ImpedesTask}
 use Rattle.hall.specs.declared.table.Table.{Table}
-use Rattle.judge.specs.Loops.{eventOf}
-use Rattle.judge.specs.Routes.{TaskRoute}
-use Rattle.judge.specs.Verdict.{noRoute, nobody as nobodyOf, ImpedesTask, verdictOf, Judged}
+use Rattle.hall.proofs.Impeded.{blocked-below}
+use Rattle.hall.proofs.Looking.{impedes-task}
+use Rattle.judge.specs.Routes.{largestRoute, TaskRoute}
+use Rattle.judge.specs.Verdict.{nobody as nobodyOf, verdictOf, Judged}
 use Rattle.judge.specs.declared.verdict.Verdict.{Verdict}
-use Rattle.judge.proofs.States.{and-inv, blocked-inv, blocked-of, blocked-lt, impedes-task}
-use Rattle.sets.proofs.Masks.{maskOf, mask-has}
-use Rattle.sets.proofs.Widths.{members-fit}
 use Rattle.judge.proofs.Named.{task-event}
+use Rattle.judge.proofs.Tasks.{Edges, route-named}
 
 -- ---- the edges of the task route, as rows
 abbrev edgeOf : Table → ℕ → ℕ → Bool
@@ -47,45 +50,36 @@ module _ (t : Table) where
   unfolding rowsOf
   row-at k l = getD-places (λ k. maskOf (edgeOf t k) 32) 0 32 k l ∙ ap (λ k. maskOf (edgeOf t k) 32) (zero-add k)
 
-  -- an edge of the rows: who impedes k's event, and is blocked
-  row-iff : (k u : ℕ) → Row (rowsOf t) k u ↔ ((isBlocked (stateAt t u) ≡ true) × ImpedesTask t k u)
+  row-iff : Edges t (rowsOf t)
   row-iff k u = (into, from)
     where
       into : Row (rowsOf t) k u → (isBlocked (stateAt t u) ≡ true) × ImpedesTask t k u
       into r =
           let h = mask-has (edgeOf t k) 32 u (omega arith) .0 (rw (row-at k (r .0)) at (r .1)) in
-          let b = and-inv (isBlocked (stateAt t u)) (impedesOf t u (eventOf (stateAt t k))) (h .1) in
-          (b .0, impedes-task t k u .0 (b .1))
+          let b = isBlocked (stateAt t u) in
+          let i = impedesOf t u (eventOf (stateAt t k)) in
+          (and-left b i (h .1), impedes-task t k u .0 (and-right b i (h .1)))
 
       from : (isBlocked (stateAt t u) ≡ true) × ImpedesTask t k u → Row (rowsOf t) k u
       from h =
-          let b = blocked-inv (stateAt t u) (h .0) in
-          let l = blocked-lt t k (h .1 .event) (h .1 .waits) in
+          let b = is-blocked (stateAt t u) (h .0) in
+          let l = blocked-below t k (h .1 .event) (h .1 .waits) in
           let e : edgeOf t k u ≡ true = rw (h .0, impedes-task t k u .1 (h .1)) refl in
-          (l, rw (row-at k l) (mask-has (edgeOf t k) 32 u (omega arith) .1 (blocked-lt t u (b .0) (b .1), e)))
-
-  edge-of : (k u : ℕ) → Row (rowsOf t) k u → TaskEdge (BlockedOn t) (Impedes t) k u
-  edge-of k u r =
-      let q = row-iff k u .0 r in
-      let b = blocked-inv (stateAt t u) (q .0) in
-      record { event = q .1 .event; waits = q .1 .waits; impedes = q .1 .impedes; other = b .0; blocked = b .1 }
-
-  edge-in : (k u : ℕ) → TaskEdge (BlockedOn t) (Impedes t) k u → Row (rowsOf t) k u
-  edge-in k u e =
-      row-iff k u .1 (blocked-of (stateAt t u) (e .other) (e .blocked), record { event = e .event; waits = e .waits; impedes = e .impedes })
+          (l, rw (row-at k l) (mask-has (edgeOf t k) 32 u (omega arith) .1 (blocked-below t u (b .0) (b .1), e)))
 
 -- ---- the named set
 unfoldable pub namedIn : Table → ℕ
 namedIn t = namedOf (rowsOf t)
 
-pub named-in : (t : Table) → TaskRoute t (namedIn t)
+named-by : (t : Table) → NamedBy (Row (rowsOf t)) (namedIn t)
 unfolding namedIn
-named-in t =
-    let n = namedOf-named (rowsOf t) in
-    record { iff = λ k. (λ h. along (edge-of t) (n .iff k .0 h), λ w. n .iff k .1 (along (edge-in t) w)) }
+named-by t = namedOf-named (rowsOf t)
+
+pub named-in : (t : Table) → TaskRoute t (namedIn t)
+named-in t = route-named t (rowsOf t) (row-iff t) (namedIn t) (named-by t)
 
 pub named-fits : (t : Table) → namedIn t < 2 ^ 32
-named-fits t = members-fit 32 (namedIn t) (λ k h. let e = first (named-in t .iff k .0 h) in blocked-lt t k (e .event) (e .waits))
+named-fits t = members-fit 32 (namedIn t) (λ k h. let e = first (named-in t .iff k .0 h) in blocked-below t k (e .event) (e .waits))
 
 -- ---- the ring
 unfoldable pub ringIn : Table → List ℕ
@@ -93,13 +87,10 @@ ringIn t = ringOf (nextsOf (rowsOf t) (namedIn t)) (namedIn t)
 
 pub ring-in : (t : Table) → 0 < namedIn t → Ring (Has (namedIn t)) (ImpedesTask t) (ringIn t)
 unfolding ringIn
-ring-in t p = ring-moves (Has (namedIn t)) (Row (rowsOf t)) (ImpedesTask t) steps (ringIn t) (rows-ring (rowsOf t) (namedIn t) (named-fits t) named p)
+ring-in t p = ring-moves (Has (namedIn t)) (Row (rowsOf t)) (ImpedesTask t) steps (ringIn t) (rows-ring (rowsOf t) (namedIn t) (named-fits t) (named-by t) p)
   where
-    named : NamedBy (Row (rowsOf t)) (namedIn t)
-    named = let n = named-in t in record { iff = λ k. (λ h. along (edge-in t) (n .iff k .0 h), λ w. n .iff k .1 (along (edge-of t) w)) }
-
     blocked : (u : ℕ) → Has (namedIn t) u → isBlocked (stateAt t u) ≡ true
-    blocked u h = let e = first (named-in t .iff u .0 h) in blocked-of (stateAt t u) (e .event) (e .waits)
+    blocked u h = let e = first (named-in t .iff u .0 h) in ap isBlocked (e .waits)
 
     steps : (k u : ℕ) → Has (namedIn t) k → Step (Has (namedIn t)) (Row (rowsOf t)) k u → Step (Has (namedIn t)) (ImpedesTask t) k u
     steps k u h = least-along (λ v q. (q .0, row-iff t k v .0 (q .1) .1)) (λ v q. (q .0, row-iff t k v .1 (blocked v (q .0), q .1)))
@@ -120,20 +111,20 @@ round-in t = record { ring = cond (ltb 0 (namedIn t)) (ringIn t) []; comes = go 
     go (no p) = let z : namedIn t ≡ 0 = omega arith in rw (le-ltb 0 (namedIn t) (omega arith)) (nobody (λ k h. none-has k (rw z at h)))
 
 unfoldable pub judgeOf : Table → ℕ → Verdict
-judgeOf t route = cond (ltb 1 route) (nobodyOf noRoute) (cond (soundOf t) (verdictOf (namedIn t) (roundIn t)) (nobodyOf notSound))
+judgeOf t route = cond (ltb largestRoute route) (nobodyOf noRoute) (cond (soundOf t) (verdictOf (namedIn t) (roundIn t)) (nobodyOf notSound))
 
 -- what it computes is what the judge hands back
 pub judgeOf-judged : (t : Table) (route : ℕ) → Judged t route (judgeOf t route)
 unfolding judgeOf
 judgeOf-judged t route = record {
-  no-route = λ l. rw (lt-ltb 1 route l) refl;
-  unsound = λ l s. rw (le-ltb 1 route l, s) refl;
+  no-route = λ l. rw (lt-ltb largestRoute route l) refl;
+  unsound = λ l s. rw (le-ltb largestRoute route l, s) refl;
   found = λ l s. record {
     named = namedIn t;
     by-tasks = λ e. named-in t;
     by-events = λ e. task-event t (namedIn t) (named-in t);
     round = roundIn t;
     ring = round-in t;
-    verdict = rw (le-ltb 1 route l, s) refl;
+    verdict = rw (le-ltb largestRoute route l, s) refl;
   };
 }

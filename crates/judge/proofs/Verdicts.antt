@@ -4,8 +4,8 @@ use mathlib.Core.Bool.{true, false}
 use Prim.Native.Nat.{ℕ}
 use Rattle.sets.specs.Set.{size}
 use Rattle.deadlock.specs.declared.ring.Round.{Round}
-use Rattle.hall.specs.Answers.{done}
-use Rattle.judge.specs.Verdict.{noStep, nobody, verdictOf}
+use Rattle.answers.specs.Answers.{done, noStep}
+use Rattle.judge.specs.Verdict.{nobody, verdictOf}
 use Rattle.judge.specs.declared.verdict.Verdict.{Verdict}
 
 pub verdict-closed : (m n : ℕ) (r : Round) → r .closed ≡ true → n ≡ size m 32

@@ -1,3 +1,3 @@
 pub mod Routes
 pub mod Verdict
-pub mod Loops
+pub mod Parts

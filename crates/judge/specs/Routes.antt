@@ -6,6 +6,10 @@ use Rattle.deadlock.specs.Waiting.{TaskNamed, EventNamed}
 use Rattle.hall.specs.Waiting.{BlockedOn, Impedes}
 use Rattle.hall.specs.declared.table.Table.{Table}
 
+-- "route not 0 or 1" is 41
+abbrev pub largestRoute : ℕ
+largestRoute = 1
+
 -- "Task route (0): an edge from blocked t to blocked u when u impedes t's event. Named: tasks from which an endless walk exists."
 pub record TaskRoute (t : Table) (named : ℕ) : Type 0 where
   pub iff : (k : ℕ) → Has named k ↔ TaskNamed (BlockedOn t) (Impedes t) k

@@ -7,30 +7,16 @@ use lib.ListN.{replicate}
 use Rattle.sets.specs.Set.{Has, size}
 use Rattle.deadlock.specs.Ring.{RingIn}
 use Rattle.deadlock.specs.declared.ring.Round.{Round}
-use Rattle.hall.specs.Answers.{done, notSound}
-use Rattle.hall.specs.Sound.{soundOf}
-use Rattle.hall.specs.Waiting.{BlockedOn, Impedes}
-use Rattle.hall.specs.declared.table.Event.{Event}
+use Rattle.answers.specs.Answers.{done, noStep, noRoute, notSound}
+use Rattle.hall.specs.Parts.{soundOf}
+use Rattle.hall.specs.Waiting.{ImpedesTask}
 use Rattle.hall.specs.declared.table.Table.{Table}
-use Rattle.judge.specs.Routes.{TaskRoute, EventRoute}
+use Rattle.judge.specs.Routes.{largestRoute, TaskRoute, EventRoute}
 use Rattle.judge.specs.declared.verdict.Verdict.{Verdict}
-
--- 22: the ring walk finds no named task to step to; 41: route not 0 or 1
-abbrev pub noStep : ℕ
-noStep = 22
-
-abbrev pub noRoute : ℕ
-noRoute = 41
 
 -- "Nobody named: all zeros, then 255s"
 abbrev pub nobody : ℕ → Verdict
 nobody answer = record { answer = answer; named = 0; count = 0; length = 0; ring = replicate 32 255 }
-
--- u "impedes the present one's event"
-pub record ImpedesTask (t : Table) (k u : ℕ) : Type 0 where
-  pub event : Event
-  pub waits : BlockedOn t k event
-  pub impedes : Impedes t u event
 
 -- "the mask of named tasks ..; the count; the ring's length; the ring's task numbers ..", "the count is the number of set bits in the mask"
 abbrev pub verdictOf : ℕ → Round → Verdict
@@ -49,6 +35,6 @@ pub record Found (t : Table) (route : ℕ) (v : Verdict) : Type 0 where
 
 -- the judge: 41, then 44, then the verdict
 pub record Judged (t : Table) (route : ℕ) (v : Verdict) : Type 0 where
-  pub no-route : 1 < route → v ≡ nobody noRoute
-  pub unsound : route ≤ 1 → soundOf t ≡ false → v ≡ nobody notSound
-  pub found : route ≤ 1 → soundOf t ≡ true → Found t route v
+  pub no-route : largestRoute < route → v ≡ nobody noRoute
+  pub unsound : route ≤ largestRoute → soundOf t ≡ false → v ≡ nobody notSound
+  pub found : route ≤ largestRoute → soundOf t ≡ true → Found t route v

@@ -1,10 +1,8 @@
-use crate::reading::awaits;
-use crate::reading::blocked;
-use crate::reading::column;
-use crate::reading::event_of;
-use crate::reading::impedes;
-use crate::reading::kept;
 use hall::table::Table;
+use states::waiting::awaits;
+use states::waiting::column;
+use states::waiting::event_of;
+use states::waiting::impedes;
 ghost use Rattle.judge.specs.Routes.{EventRoute};
 
 // The tasks whose event starts an endless walk. A set of events is held as the tasks that await them: the lowest of `todo` stands for its
@@ -12,7 +10,7 @@ ghost use Rattle.judge.specs.Routes.{EventRoute};
 pub fn event_route(table: Table) -> u32
     ensures { λ r. ⌜ EventRoute table r ⌝ }
 {
-    let mut left = blocked(table);
+    let mut left = table.blocked();
     let mut todo = left;
     while todo != 0 {
         let t = sets::lowest(todo);
@@ -26,9 +24,9 @@ pub fn event_route(table: Table) -> u32
             let u = sets::lowest(unseen);
             let at = u * 16 + place;
             let phase = table.phases[at];
-            impeders = kept(impeders, u, impedes(table.members[at], phase, event));
+            impeders = sets::kept(impeders, u, impedes(table.members[at], phase, event));
             let other = table.tasks[u];
-            waiters = kept(waiters, u, awaits(other, event));
+            waiters = sets::kept(waiters, u, awaits(other, event));
             unseen = sets::take(unseen, u);
         }
         if impeders == 0 {

@@ -2,20 +2,18 @@ use crate::event_route::event_route;
 use crate::ring::ring_of;
 use crate::task_route::task_route;
 use crate::verdict::Verdict;
+use answers::DONE;
+use answers::NO_ROUTE;
+use answers::NO_STEP;
+use answers::NOT_SOUND;
 use deadlock::ring::Round;
-use hall::answers::DONE;
-use hall::answers::NOT_SOUND;
 use hall::table::Table;
 ghost use mathlib.Core.Path.{_≡_};
-ghost use mathlib.Core.Bool.{true};
-ghost use Rattle.judge.specs.Loops.{ByRoute};
+ghost use Rattle.judge.specs.Parts.{ByRoute};
 ghost use Rattle.judge.specs.Verdict.{verdictOf, Judged};
 
-// 22: the ring walk finds no named task to step to
-pub const NO_STEP: u32 = 22;
-
-// 41: route not 0 or 1
-pub const NO_ROUTE: u32 = 41;
+// "route not 0 or 1"
+pub const LARGEST_ROUTE: u64 = 1;
 
 fn named_by(table: Table, route: u64) -> u32
     ensures { λ r. ⌜ ByRoute table route r ⌝ }
@@ -48,7 +46,7 @@ fn verdict(named: u32, round: Round) -> Verdict
 pub fn judge(table: Table, route: u64) -> Verdict
     ensures { λ r. ⌜ Judged table route r ⌝ }
 {
-    if route > 1 {
+    if route > LARGEST_ROUTE {
         return Verdict::nobody(NO_ROUTE);
     }
     if !table.is_sound() {

@@ -1,8 +1,6 @@
 // The judge over a table (document 01, 'Stuck' and 'The hall sheet'): two routes, one ring, a verdict.
-mod edges;
 pub mod event_route;
 pub mod judge;
-mod reading;
 mod ring;
 pub mod task_route;
 pub mod verdict;

@@ -1,10 +1,9 @@
-use crate::edges::edges;
 use deadlock::ring::Round;
 use hall::table::Table;
 ghost use Rattle.sets.specs.Set.{Has, LowestOf};
 ghost use Rattle.deadlock.specs.Ring.{RingIn};
-ghost use Rattle.judge.specs.Loops.{NextsOf};
-ghost use Rattle.judge.specs.Verdict.{ImpedesTask};
+ghost use Rattle.hall.specs.Waiting.{ImpedesTask};
+ghost use Rattle.judge.specs.Parts.{NextsOf};
 
 // The lowest of a row; of an empty one 32, which is no task.
 fn next_of(row: u32) -> u8
@@ -24,8 +23,8 @@ fn nexts(rows: [u32; 32]) -> [u8; 32]
 }
 
 // The ring of the named tasks: from each the walk steps to the lowest named one that impedes its event.
-pub fn ring_of(table: Table, named: u32) -> Round
+pub(crate) fn ring_of(table: Table, named: u32) -> Round
     ensures { λ r. ⌜ RingIn (Has named) (ImpedesTask table) r ⌝ }
 {
-    deadlock::ring::ring(nexts(edges(table, named)), named)
+    deadlock::ring::ring(nexts(table.edges(named)), named)
 }

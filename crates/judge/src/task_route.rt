@@ -1,5 +1,3 @@
-use crate::edges::edges;
-use crate::reading::blocked;
 use hall::table::Table;
 ghost use Rattle.judge.specs.Routes.{TaskRoute};
 
@@ -7,5 +5,5 @@ ghost use Rattle.judge.specs.Routes.{TaskRoute};
 pub fn task_route(table: Table) -> u32
     ensures { λ r. ⌜ TaskRoute table r ⌝ }
 {
-    deadlock::elimination::named(edges(table, blocked(table)))
+    deadlock::elimination::named(table.edges(table.blocked()))
 }

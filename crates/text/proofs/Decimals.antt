@@ -5,7 +5,7 @@ use Prim.Native.Nat.{ℕ, suc, _+_, _/_, _%_, _^_, _≤_, _<_}
 use native.Mathlib.Nat.{pow-suc}
 use native.Mathlib.Omega.{arith}
 use borrow.Author.Tests.{lt-ltb, le-ltb}
-use Rattle.text.specs.Adding.{Adds}
+use Rattle.text.specs.Parts.{Adds}
 use Rattle.text.specs.Text.{decimal, digit, digitsOf, numbered}
 use Rattle.text.specs.declared.text.Text.{Text}
 use Rattle.text.proofs.Said.{adds-both}

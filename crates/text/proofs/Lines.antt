@@ -7,7 +7,7 @@ use native.Mathlib.Numerals.{add-one}
 use lib.ListN.{length, take}
 use borrow.Author.Tests.{eq-eqb, ne-eqb}
 use Rattle.sets.specs.Set.{bit, Has}
-use Rattle.hall.specs.Answers.{done}
+use Rattle.answers.specs.Answers.{done}
 use Rattle.judge.specs.declared.verdict.Verdict.{Verdict}
 use Rattle.text.specs.Text.{line, numbered}
 use Rattle.text.specs.Verdict.{answerWord, namedWord, ringWord, taskIn, tasksIn, verdictText}

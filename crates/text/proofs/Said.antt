@@ -5,7 +5,7 @@ use Prim.Native.Nat.{ℕ, suc, _+_, _-_, _≤_, _<_}
 use native.Mathlib.Omega.{arith}
 use lib.ListN.{length, replicate, set, take, length-append, length-take}
 use lib.Seq.{set-at, take-all, take-at, take-append-le, append-snoc}
-use Rattle.text.specs.Adding.{Adds}
+use Rattle.text.specs.Parts.{Adds}
 use Rattle.text.specs.Text.{textWith}
 use Rattle.text.specs.declared.text.Text.{Text}
 

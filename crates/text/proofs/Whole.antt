@@ -7,7 +7,7 @@ use native.Mathlib.Nat.{pow-suc}
 use native.Mathlib.Omega.{arith}
 use lib.ListN.{getD, length, take, length-append}
 use Rattle.sets.specs.Set.{bit}
-use Rattle.hall.specs.Answers.{done}
+use Rattle.answers.specs.Answers.{done}
 use Rattle.judge.specs.declared.verdict.Verdict.{Verdict}
 use Rattle.text.specs.Text.{decimal, digitsOf, numbered}
 use Rattle.text.specs.Verdict.{taskIn, tasksIn, verdictText}

@@ -1,3 +1,3 @@
 pub mod Text
 pub mod Verdict
-pub mod Adding
+pub mod Parts

@@ -2,7 +2,7 @@
 ghost use mathlib.Core.Path.{_≡_};
 ghost use mathlib.Core.List.{[], _∷_};
 ghost use Prim.Native.Nat.{ℕ, suc, _<_, _^_};
-ghost use Rattle.text.specs.Adding.{Adds};
+ghost use Rattle.text.specs.Parts.{Adds};
 ghost use Rattle.text.specs.Text.{digitsOf, numbered, textWith};
 
 // The bytes past `length` are 0.

@@ -5,7 +5,7 @@ ghost use mathlib.Core.Path.{_≡_};
 ghost use mathlib.Core.List.{[], _∷_};
 ghost use Prim.Native.Nat.{_≤_, min};
 ghost use lib.ListN.{length, take};
-ghost use Rattle.text.specs.Adding.{Adds};
+ghost use Rattle.text.specs.Parts.{Adds};
 ghost use Rattle.text.specs.Text.{line, numbered, textWith};
 ghost use Rattle.text.specs.Verdict.{answerWord, namedWord, ringWord, taskIn, tasksIn, verdictText};
 

@@ -1,8 +1,9 @@
 -- The three tests in their order, then what the route and the ring promise.
-use mathlib.Core.Bool.{true, false, false≢true, true≢false}
+use mathlib.Core.Bool.{true, false}
 use mathlib.Core.Path.{_≡_, refl, sym, _∙_}
 use native.Mathlib.Omega.{arith}
-use Rattle.hall.proofs.Lists.{clash, fails, holds}
+use Rattle.states.proofs.Truth.{clash, fails, holds}
+use Rattle.hall.specs.Parts.{soundOf}
 use Rattle.judge.proofs.judge.judge.Statement.{statement}
 use Rattle.judge.proofs.judge.judge.Tie as tie
 
@@ -18,14 +19,19 @@ is-sound-requires c κs = tt
 nobody-requires-2 : tie.Need-nobody-requires-2
 nobody-requires-2 c κs = tt
 
+-- what the test of soundness tells, either way
+told-unsound : (c : tie.Then2) → soundOf (c .before .before .before .args .table) ≡ false
+told-unsound c = sym (c .before .is-sound .ensures) ∙ fails _ (λ e. clash (c .if2 .taken) (rw e refl))
+
+told-sound : (c : tie.Else2) → soundOf (c .before .before .before .args .table) ≡ true
+told-sound c = sym (c .before .is-sound .ensures) ∙ holds _ (λ e. clash (rw e refl) (c .if2 .left))
+
 returns-2 : tie.Need-returns-2
-returns-2 c =
-    let unsound : c .before .before .is-sound .result ≡ false = fails _ (λ e. clash (c .before .if2 .taken) (rw e refl)) in
-    record {
-      no-route = λ l. absurd (omega arith);
-      unsound = λ l s. c .nobody2 .ensures;
-      found = λ l s. absurd (true≢false (sym s ∙ sym (c .before .before .is-sound .ensures) ∙ unsound));
-    }
+returns-2 c = record {
+  no-route = λ l. absurd (omega arith);
+  unsound = λ l s. c .nobody2 .ensures;
+  found = λ l s. absurd (clash s (told-unsound (c .before)));
+}
 
 named-by-requires : tie.Need-named-by-requires
 named-by-requires c κs = tt
@@ -38,14 +44,14 @@ verdict-requires c κs = tt
 
 returns-3 : tie.Need-returns-3
 returns-3 c =
-    let sound : c .before .before .before .before .is-sound .result ≡ true = holds _ (λ e. clash (rw e refl) (c .before .before .before .if2 .left)) in
+    let by = c .before .before .named-by in
     record {
       no-route = λ l. absurd (omega arith);
-      unsound = λ l s. absurd (false≢true (sym s ∙ sym (c .before .before .before .before .is-sound .ensures) ∙ sound));
+      unsound = λ l s. absurd (clash (told-sound (c .before .before .before)) s);
       found = λ l s. record {
-        named = c .before .before .named-by .result;
-        by-tasks = c .before .before .named-by .ensures .tasks;
-        by-events = λ e. c .before .before .named-by .ensures .events (λ z. omega arith);
+        named = by .result;
+        by-tasks = by .ensures .tasks;
+        by-events = λ e. by .ensures .events (λ z. omega arith);
         round = c .before .ring-of .result;
         ring = c .before .ring-of .ensures;
         verdict = c .verdict .ensures;

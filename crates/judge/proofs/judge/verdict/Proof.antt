@@ -9,7 +9,9 @@ nobody-requires : tie.Need-nobody-requires
 nobody-requires c κs = tt
 
 returns : tie.Need-returns
-returns c = verdict-closed _ _ _ (c .before .before .if1 .taken) (c .size .ensures)
+returns c =
+    let a = c .before .before .before .args in
+    verdict-closed (a .named) _ (a .round) (c .before .before .if1 .taken) (c .size .ensures)
 
 returns-2 : tie.Need-returns-2
 returns-2 c = verdict-stopped _ _ _ (c .before .if1 .left) (c .nobody .ensures)

@@ -1,4 +1,4 @@
-use Rattle.judge.proofs.Tasks.{route-named}
+use Rattle.judge.proofs.Tasks.{blocked-edges, route-named}
 use Rattle.judge.proofs.task_route.task_route.Statement.{statement}
 use Rattle.judge.proofs.task_route.task_route.Tie as tie
 
@@ -12,7 +12,8 @@ named-requires : tie.Need-named-requires
 named-requires c κs = tt
 
 returns : tie.Need-returns
-returns c = route-named _ _ _ (c .before .before .blocked .ensures) (c .before .edges .ensures) _ (c .named .ensures)
+returns c =
+    route-named _ (c .before .edges .result) (blocked-edges _ _ _ (c .before .before .blocked .ensures) (c .before .edges .ensures)) _ (c .named .ensures)
 
 pub task-route-spec : {M : Type 1} → statement M
 task-route-spec = tie.close (tie.spec blocked-requires edges-requires named-requires returns)

@@ -2,7 +2,7 @@
 use mathlib.Core.Path.{_≡_}
 use Prim.Native.Nat.{_-_, _≤_}
 use borrow.Author.Needs.{needs}
-use Rattle.text.specs.Adding.{Adds}
+use Rattle.text.specs.Parts.{Adds}
 use Rattle.text.specs.Text.{numbered}
 use Rattle.text.specs.Verdict.{tasksIn}
 use Rattle.text.proofs.Said.{adds-none, adds-both}

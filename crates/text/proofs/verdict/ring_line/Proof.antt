@@ -6,7 +6,7 @@ use native.Mathlib.Omega.{arith}
 use lib.ListN.{length, take}
 use lib.Seq.{take-suc}
 use borrow.Author.Needs.{needs}
-use Rattle.text.specs.Adding.{Adds}
+use Rattle.text.specs.Parts.{Adds}
 use Rattle.text.specs.Text.{numbered}
 use Rattle.text.proofs.Decimals.{numbered-append}
 use Rattle.text.proofs.Said.{adds-none, adds-both}
@@ -51,12 +51,20 @@ add-place c = search needs
 loop-less : tie.Need-loop-less Inv-loop μ-loop
 loop-less c = search needs
 
+-- the verdict's ring has 32 places
+places : (c : tie.Start Inv-loop μ-loop) → length (c .args .verdict .ring) ≡ 32
+places c = search needs
+
+-- from the loop's head back to the beginning
+abbrev start : tie.At-loop Inv-loop μ-loop → tie.Start Inv-loop μ-loop
+start c = c .before .before .before .before .before
+
 loop-again : tie.Need-loop-again Inv-loop μ-loop
 loop-again c =
-    let start = c .before .before .before .before .before .before .before .before in
-    let ring = start .args .verdict .ring in
-    let at = c .before .before .before .loop in
-    let places : length ring ≡ 32 = search needs in
+    let head = c .before .before .before in
+    let ring = start head .args .verdict .ring in
+    let at = head .loop in
+    let long = places (start head) in
     let here : at .place < length ring = omega arith in
     (search needs, rw (add-one, take-suc ring (at .place) 0, numbered-append, ← c .before .widen .ensures) (adds-both (at .inv .1) (c .number .ensures)))
 
@@ -65,12 +73,11 @@ byte-requires c κs = search needs
 
 returns : tie.Need-returns Inv-loop μ-loop
 returns c =
-    let start = c .before .before .before .before .before .before .before in
-    let ring = start .args .verdict .ring in
-    let at = c .before .before .loop in
-    let places : length ring ≡ 32 = search needs in
-    let all : at .place ≡ min (start .args .verdict .length) (length ring) = omega arith in
-    adds-both (adds-both (c .before .before .before .word .ensures) (rw (all, take-min) at (at .inv .1))) (c .byte .ensures)
+    let head = c .before .before in
+    let verdict = start head .args .verdict in
+    let long = places (start head) in
+    let all : head .loop .place ≡ min (verdict .length) (length (verdict .ring)) = omega arith in
+    adds-both (adds-both (head .before .word .ensures) (rw (all, take-min) at (head .loop .inv .1))) (c .byte .ensures)
 
 pub ring-line-spec : {M : Type 1} → statement M
 ring-line-spec =

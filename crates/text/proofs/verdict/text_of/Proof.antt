@@ -19,6 +19,7 @@ empty-requires c κs = search needs
 answer-line-requires : tie.Need-answer-line-requires
 answer-line-requires c κs = search needs
 
+-- the whole text has room
 whole : (c : tie.After-empty) → length (verdictText (c .before .args .verdict)) ≤ 256
 whole c =
     let v = c .before .args .verdict in
@@ -29,9 +30,10 @@ whole c =
 
 returns : tie.Need-returns
 returns c =
-    let start = c .before .before .before in
-    let first = c .before .before .answer-line .ensures in
-    (rw (text-refused (start .before .args .verdict) (λ e. omega arith)) (first .says _ (start .empty .ensures)), whole start)
+    let first = c .before .before in
+    let start = first .before in
+    let said = first .answer-line .ensures .says _ (start .empty .ensures) in
+    (rw (text-refused (start .before .args .verdict) (λ e. omega arith)) said, whole start)
 
 named-line-requires : tie.Need-named-line-requires
 named-line-requires c κs = search needs
@@ -41,10 +43,10 @@ ring-line-requires c κs = search needs
 
 returns-2 : tie.Need-returns-2
 returns-2 c =
-    let start = c .before .before .before .before .before in
-    let first = c .before .before .before .before .answer-line .ensures in
-    let both = adds-both first (adds-both (c .before .named-line .ensures) (c .ring-line .ensures)) in
-    (rw (text-done (start .before .args .verdict) (omega arith)) (both .says _ (start .empty .ensures)), whole start)
+    let first = c .before .before .before .before in
+    let start = first .before in
+    let said = adds-both (first .answer-line .ensures) (adds-both (c .before .named-line .ensures) (c .ring-line .ensures)) in
+    (rw (text-done (start .before .args .verdict) (omega arith)) (said .says _ (start .empty .ensures)), whole start)
 
 pub text-of-spec : {M : Type 1} → statement M
 text-of-spec =

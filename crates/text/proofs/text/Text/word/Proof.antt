@@ -5,7 +5,7 @@ use native.Mathlib.Numerals.{add-one}
 use lib.ListN.{length, take}
 use lib.Seq.{take-suc, take-length}
 use borrow.Author.Needs.{needs}
-use Rattle.text.specs.Adding.{Adds}
+use Rattle.text.specs.Parts.{Adds}
 use Rattle.text.proofs.Said.{adds-none, adds-both}
 use Rattle.text.proofs.text.Text.word.Statement.{statement}
 use Rattle.text.proofs.text.Text.word.Tie as tie
@@ -33,8 +33,9 @@ loop-less c = search needs
 
 loop-again : tie.Need-loop-again Inv-loop μ-loop
 loop-again c =
-    let word = c .before .before .before .before .before .args .word .now in
-    let at = c .before .before .before .loop in
+    let head = c .before .before .before in
+    let word = head .before .before .args .word .now in
+    let at = head .loop in
     let here : at .i < length word = search needs in
     (search needs, rw (add-one, take-suc word (at .i) 0) (adds-both (at .inv .1) (c .byte .ensures)))
 
