@@ -6,19 +6,19 @@ use mathlib.Core.List.{List}
 use Prim.Native.Nat.{ℕ, _≤_}
 use native.Mathlib.Decide.{ℕ-discrete}
 use lib.Dec.{T, eqb}
-use Rattle.hall.specs.Answers.{done, among}
+use Rattle.answers.specs.Answers.{done, among, noRoute, shortStrip}
 use Rattle.hall.proofs.Soundness.{sound-iff}
-use Rattle.judge.specs.Verdict.{noRoute}
 use Rattle.judge.specs.declared.verdict.Verdict.{Verdict}
 use Rattle.judge.proofs.Answers.{answer-0}
 use Rattle.sheet.specs.Reader.{sheetAt}
 use Rattle.sheet.proofs.Numbers.{Bytes}
 use Rattle.sheet.proofs.Theorems.{accepts, answers}
-use Rattle.mollavisce.specs.Entry.{SheetJudged, Entered, shortStrip, entryAnswers}
+use Rattle.judge.specs.Routes.{largestRoute}
+use Rattle.mollavisce.specs.Entry.{VerdictOf, Entered, entryAnswers}
 use Rattle.mollavisce.proofs.Entered.{Way, no-route, short, reached, way}
 
 module _ (sheet : List ℕ) (bytes : Bytes sheet) (route : ℕ) where
-  pub judged-answer : (v : Verdict) → route ≤ 1 → SheetJudged sheet route v → v .answer ≡ sheetAt sheet .answer
+  pub judged-answer : (v : Verdict) → route ≤ largestRoute → VerdictOf sheet route v → v .answer ≡ sheetAt sheet .answer
   judged-answer v l j = go (ℕ-discrete (sheetAt sheet .answer) done)
     where
       go : Dec (sheetAt sheet .answer ≡ done) → v .answer ≡ sheetAt sheet .answer

@@ -6,32 +6,32 @@ use native.Mathlib.Decide.{decLt}
 use native.Mathlib.Omega.{arith}
 use lib.ListN.{length}
 use borrow.Author.Tests.{ne-eqb}
-use Rattle.hall.specs.Answers.{done}
-use Rattle.judge.specs.Verdict.{noRoute}
+use Rattle.answers.specs.Answers.{done, noRoute, shortStrip}
 use Rattle.judge.specs.declared.verdict.Verdict.{Verdict}
-use Rattle.mollavisce.specs.Entry.{SheetJudged, Entered, shortStrip}
+use Rattle.judge.specs.Routes.{largestRoute}
+use Rattle.mollavisce.specs.Entry.{VerdictOf, Entered}
 use Rattle.mollavisce.specs.Strip.{stripAfter}
 
 module _ (sheet : List ℕ) (route : ℕ) (before after : List ℕ) (answer : ℕ) where
   -- the sheet was judged
   pub record Reached : Type 0 where
-    pub route-there : route ≤ 1
+    pub route-there : route ≤ largestRoute
     pub long : 38 ≤ length before
     pub verdict : Verdict
-    pub judged : SheetJudged sheet route verdict
+    pub judged : VerdictOf sheet route verdict
     pub answers : answer ≡ verdict .answer
     pub strip : after ≡ stripAfter verdict before
 
   pub data Way : Type 0 where
-    no-route : 1 < route → answer ≡ noRoute → after ≡ before → Way
-    short : route ≤ 1 → length before < 38 → answer ≡ shortStrip → after ≡ before → Way
+    no-route : largestRoute < route → answer ≡ noRoute → after ≡ before → Way
+    short : route ≤ largestRoute → length before < 38 → answer ≡ shortStrip → after ≡ before → Way
     reached : Reached → Way
 
   module _ (x : Entered sheet route before after answer) where
     pub way : Way
-    way = go (decLt 1 route) (decLt (length before) 38)
+    way = go (decLt largestRoute route) (decLt (length before) 38)
       where
-        go : Dec (1 < route) → Dec (length before < 38) → Way
+        go : Dec (largestRoute < route) → Dec (length before < 38) → Way
         go (yes l) d = no-route l (x .no-route l .0) (x .no-route l .1)
         go (no l) (yes m) = let y = x .short (omega arith) m in short (omega arith) m (y .0) (y .1)
         go (no l) (no m) =

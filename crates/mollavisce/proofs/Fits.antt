@@ -10,15 +10,16 @@ use Rattle.sets.specs.Set.{Has}
 use Rattle.sets.proofs.Sizes.{size-le}
 use Rattle.deadlock.specs.Ring.{Comes, nobody, round, stops}
 use Rattle.deadlock.proofs.Rings.{ring-short}
-use Rattle.hall.specs.Answers.{done}
+use Rattle.answers.specs.Answers.{done}
 use Rattle.hall.specs.declared.table.Table.{Table}
-use Rattle.hall.proofs.Changes.{blocked-below}
-use Rattle.judge.specs.Verdict.{ImpedesTask}
+use Rattle.hall.proofs.Impeded.{blocked-below}
+use Rattle.hall.specs.Waiting.{ImpedesTask}
 use Rattle.judge.specs.declared.verdict.Verdict.{Verdict}
 use Rattle.judge.proofs.Answers.{Holds, judged-holds, answer-0}
+use Rattle.judge.specs.Routes.{largestRoute}
 use Rattle.sets.proofs.Widths.{members-fit}
+use Rattle.mollavisce.specs.Entry.{VerdictOf}
 use Rattle.sheet.specs.Reader.{sheetAt}
-use Rattle.mollavisce.specs.Entry.{SheetJudged}
 
 -- the mask is of 32 tasks, count and ring length are bytes, the ring has 32 places
 pub record Fits (v : Verdict) : Type 0 where
@@ -49,13 +50,16 @@ module _ (t : Table) (v : Verdict) (h : Holds t v) where
         mask = mask-fits;
         count = omega (arith, h .count, size-le 32 (v .named));
         ring-length = omega (arith, x .long, s);
-        places = ap length (x .places) ∙ (length-append (x .ring) (replicate (32 - length (x .ring)) 255) ∙ omega (arith, s, length-replicate {A = ℕ} (32 - length (x .ring)) 255));
+        places =
+            ap length (x .places)
+            ∙ (length-append (x .ring) (replicate (32 - length (x .ring)) 255)
+            ∙ omega (arith, s, length-replicate {A = ℕ} (32 - length (x .ring)) 255));
       }
 
-pub sheet-fits : (sheet : List ℕ) (route : ℕ) (v : Verdict) → SheetJudged sheet route v → v .answer ≡ done → Fits v
-sheet-fits sheet route v j e = go (decLt 1 route) (ℕ-discrete (sheetAt sheet .answer) done)
+pub sheet-fits : (sheet : List ℕ) (route : ℕ) (v : Verdict) → VerdictOf sheet route v → v .answer ≡ done → Fits v
+sheet-fits sheet route v j e = go (decLt largestRoute route) (ℕ-discrete (sheetAt sheet .answer) done)
   where
-    go : Dec (1 < route) → Dec (sheetAt sheet .answer ≡ done) → Fits v
+    go : Dec (largestRoute < route) → Dec (sheetAt sheet .answer ≡ done) → Fits v
     go (yes l) d = absurd (omega (arith, e, ap (λ (w : Verdict). w .answer) (j .no-route l)))
     go (no l) (yes a) =
         let t = sheetAt sheet .table in

@@ -7,9 +7,9 @@ use native.Mathlib.Omega.{arith}
 use lib.ListN.{length, drop}
 use lib.Seq.{take-at}
 use borrow.Author.Tests.{eq-eqb}
-use Rattle.hall.specs.Answers.{done}
+use Rattle.answers.specs.Answers.{done}
 use Rattle.judge.specs.declared.verdict.Verdict.{Verdict}
-use Rattle.mollavisce.specs.Entry.{SheetJudged, Entered}
+use Rattle.mollavisce.specs.Entry.{VerdictOf, Entered}
 use Rattle.mollavisce.specs.Strip.{stripOf, stripAfter, verdictIn}
 use Rattle.mollavisce.proofs.Entered.{done-reached}
 use Rattle.mollavisce.proofs.Fits.{sheet-fits}
@@ -45,12 +45,12 @@ module _ (v : Verdict) (fits : v .named < 2 ^ 32) (places : length (v .ring) ≡
 
 -- so what a host reads after answer 0 is the verdict of the sheet
 module _ (sheet : List ℕ) (route : ℕ) (before after : List ℕ) (x : Entered sheet route before after done) where
-  pub entered-judged : SheetJudged sheet route (verdictIn after)
+  pub entered-judged : VerdictOf sheet route (verdictIn after)
   entered-judged =
       let r = done-reached sheet route before after done x refl in
       let v = r .verdict in
       let f = sheet-fits sheet route v (r .judged) (sym (r .answers)) in
-      subst (SheetJudged sheet route) (sym (ap verdictIn (r .strip) ∙ read-back v (f .mask) (f .places) (sym (r .answers)) before)) (r .judged)
+      subst (VerdictOf sheet route) (sym (ap verdictIn (r .strip) ∙ read-back v (f .mask) (f .places) (sym (r .answers)) before)) (r .judged)
 
-  pub entered-read : (v : Verdict) → SheetJudged sheet route v → verdictIn after ≡ v
+  pub entered-read : (v : Verdict) → VerdictOf sheet route v → verdictIn after ≡ v
   entered-read v j = sheet-judged-one sheet route (verdictIn after) v entered-judged j

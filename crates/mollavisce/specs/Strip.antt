@@ -1,11 +1,11 @@
--- The answer strip (document 01, 'The hall sheet'): "Answer 0 writes 38 bytes: the mask of named tasks (four bytes, low first, bit k for task k); the count; the
--- ring's length; the ring's task numbers, filled up to 32 places with 255." "Longer strips keep the rest."
+-- The answer strip (document 01, 'The hall sheet'): "Answer 0 writes 38 bytes: the mask of named tasks (four bytes, low first, bit k for task k); the count;
+-- the ring's length; the ring's task numbers, filled up to 32 places with 255." "Longer strips keep the rest."
 use mathlib.Core.Bool.{cond}
 use mathlib.Core.List.{List, [], _∷_, _++_}
 use Prim.Native.Nat.{ℕ, _+_, _*_, _/_, _%_}
 use lib.Dec.{eqb}
 use lib.ListN.{drop, getD, take}
-use Rattle.hall.specs.Answers.{done}
+use Rattle.answers.specs.Answers.{done}
 use Rattle.judge.specs.declared.verdict.Verdict.{Verdict}
 
 -- "the mask of named tasks (four bytes, low first ..); the count; the ring's length"

@@ -1,18 +1,17 @@
 // The verdict of a sheet, and the entry for a C++ host.
-use judge::judge::NO_ROUTE;
+use answers::NO_ROUTE;
+use answers::SHORT_STRIP;
+use judge::judge::LARGEST_ROUTE;
 use judge::judge::judge;
 use judge::verdict::Verdict;
 use sheet::reader::read;
-ghost use Rattle.mollavisce.specs.Entry.{SheetJudged, Entered};
-
-// Answer strip under 38 bytes.
-pub const SHORT_STRIP: u32 = 40;
+ghost use Rattle.mollavisce.specs.Entry.{VerdictOf, Entered};
 
 // What the judge says of the table that a sheet holds.
 pub fn verdict_of(bytes: &[u8], route: u64) -> Verdict
-    ensures { λ r. ⌜ SheetJudged (now (bytes .entry)) route r ⌝ }
+    ensures { λ r. ⌜ VerdictOf (now (bytes .entry)) route r ⌝ }
 {
-    if route > 1 {
+    if route > LARGEST_ROUTE {
         return Verdict::nobody(NO_ROUTE);
     }
     let mut refusal: u32 = 0;
@@ -28,7 +27,7 @@ pub fn verdict_of(bytes: &[u8], route: u64) -> Verdict
 pub extern "C" fn sheet_verdict(sheet: &[u8], route: u64, strip: &mut [u8]) -> u32
     ensures { λ r. ⌜ Entered (now (sheet .entry)) route (now (strip .entry)) (now (strip .exit)) r ⌝ }
 {
-    if 1 < route {
+    if LARGEST_ROUTE < route {
         return NO_ROUTE;
     }
     if strip.len() < 38 {

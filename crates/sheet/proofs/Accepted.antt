@@ -8,15 +8,17 @@ use lib.Dec.{eqb, ltb}
 use lib.ListN.{length, getD, set, take, replicate, length-set, length-replicate}
 use lib.Seq.{take-all, getD-set-same, getD-set-other}
 use borrow.Author.Tests.{eqb-true, le-leb, ltb-false}
-use Rattle.hall.specs.Table.{largestPhase, event, openAt, memberAt, phaseAt, isLive, Shaped}
+use Rattle.states.specs.State.{largestPhase, event, isLive}
+use Rattle.hall.specs.Table.{openAt, memberAt, joined, Shaped}
 use Rattle.hall.specs.Effects.{withState, withEntry}
 use Rattle.hall.specs.Sound.{Sound}
-use Rattle.hall.specs.declared.table.Event.{Event}
-use Rattle.hall.specs.declared.table.State.{State}
+use Rattle.states.specs.declared.state.Event.{Event}
+use Rattle.states.specs.declared.state.State.{State}
 use Rattle.hall.specs.declared.table.Table.{Table}
 use Rattle.hall.proofs.Places.{open-in, open-below}
-use Rattle.hall.proofs.Written.{put-at-here, put-at-other, state-reads, entry-reads}
-use Rattle.hall.proofs.Soundness.{awaitSound, getD-all}
+use Rattle.hall.proofs.Written.{entryAt as entryIn, same-member, same-phase, reads-itself, reads-member, put-at-here, put-at-other, state-reads, entry-reads}
+use Rattle.states.specs.Parts.{stateSound}
+use Rattle.hall.proofs.Soundness.{getD-all}
 use Rattle.sheet.specs.declared.entry.Entry.{Entry}
 use Rattle.sheet.specs.declared.entry.Membership.{Membership}
 use Rattle.sheet.specs.declared.head.Head.{Head}
@@ -52,14 +54,14 @@ module _ (s : List ℕ) (eight : Bytes s) where
       })))
       (λ o. none tt))
 
-  membership-ok : (t : Table) (floor at : ℕ) →
-      Ok (λ (m : Membership). PhaseRead t floor at (m .phaser .0) (m .phase .0)) (membershipAt s (t .opened) floor at)
+  membership-ok : (t : Table) (floor at : ℕ)
+      → Ok (λ (m : Membership). PhaseRead t floor at (m .phaser .0) (m .phase .0)) (membershipAt s (t .opened) floor at)
   unfolding membershipAt
   membership-ok t floor at = same-onward (event-ok t floor at) (λ e next r. fine {a = membershipOf e} r)
 
   record StateRead (t : Table) (at : ℕ) (x : State) (next : ℕ) : Type 0 where
     pub alive : isLive x ≡ true
-    pub awaits : awaitSound (openAt t) x ≡ true
+    pub awaits : stateSound (openAt t) x ≡ true
     pub bytes : take next s ≡ take at s ++ stateBytes x
 
   state-ok : (t : Table) (at : ℕ) → Ok (StateRead t at) (stateOn s (t .opened) at)
@@ -79,7 +81,7 @@ module _ (s : List ℕ) (eight : Bytes s) where
     pub low : e .number .0 < 32
     pub least : floor ≤ e .number .0
     pub alive : isLive (e .state) ≡ true
-    pub awaits : awaitSound (openAt t) (e .state) ≡ true
+    pub awaits : stateSound (openAt t) (e .state) ≡ true
     pub bytes : take next s ≡ (take at s ++ (numberBytes (e .number .0) ++ stateBytes (e .state))) ++ numberBytes (e .count)
 
   entry-ok : (t : Table) (floor at : ℕ) → Ok (EntryRead t floor at) (entryAt s (t .opened) floor at)
@@ -109,23 +111,24 @@ module _ (s : List ℕ) (eight : Bytes s) where
         let m = e .phase .0 in
         let u = r .sofar in
         let l = open-below t p (v .opens) in
-        let a = entry-reads u (j .grown .shaped) k p true m low l in
-        fine {a = rising (p + 1) (withEntry u k p true m)} (record {
+        let a = entry-reads (j .grown .shaped) (reads-itself u) k p (joined m) low l in
+        let other : (i : ℕ) → ¬ (i ≡ p) → entryIn (withEntry u k p (joined m)) k i ≡ entryIn u k i =
+        λ i d. a .entries k i ∙ put-at-other (entryIn u) k p (joined m) k i (λ x. d (x .1)) in
+        let here = a .entries k p ∙ put-at-here (entryIn u) k p (joined m) in
+        fine {a = rising (p + 1) (withEntry u k p (joined m))} (record {
           grown = grown-more k x t low u (j .grown) alive p m l (v .opens) (v .most);
           part = part-step s w n _ _ _ _ 16 left (r .floor) at next p (j .part) (v .least) l
-              (λ i d. a .members k i ∙ put-at-other (memberAt u) k p true k i (λ x. d (x .1)))
-              (a .members k p ∙ put-at-here (memberAt u) k p true)
-              (λ i d hi. rw (a .phases k i ∙ put-at-other (phaseAt u) k p m k i (λ x. d (x .1))))
-              (v .bytes ∙ rw (a .phases k p ∙ put-at-here (phaseAt u) k p m));
+              (λ i d. same-member (other i d)) (same-member here)
+              (λ i d hi. rw (same-phase (other i d))) (v .bytes ∙ rw (same-phase here));
         }))
 
     record MembersRead (w : List ℕ) (u : Table) (next : ℕ) : Type 0 where
       pub grown : Grown k x t u
       pub bytes : take next s ≡ w ++ listed (memberAt u k) (memberBytes u k) 16
 
-    members-ok : (w : List ℕ) (n at : ℕ) → Grown k x t (withState t k x) → ((p : ℕ) → memberAt (withState t k x) k p ≡ false) →
-        take at s ≡ w ++ numberBytes n →
-        Ok (MembersRead w) (each (memberStep s (t .opened) k) n (withState t k x) at)
+    members-ok : (w : List ℕ) (n at : ℕ) → Grown k x t (withState t k x) → ((p : ℕ) → memberAt (withState t k x) k p ≡ false)
+        → take at s ≡ w ++ numberBytes n
+        → Ok (MembersRead w) (each (memberStep s (t .opened) k) n (withState t k x) at)
     unfolding each
     members-ok w n at g e b =
         same-onward
@@ -140,8 +143,8 @@ module _ (s : List ℕ) (eight : Bytes s) where
     pub opens : r .sofar .opened ≡ opened
     pub part : Part s w n (liveAt (r .sofar)) (taskBytes (r .sofar)) 32 left (r .floor) at
 
-  task-ok : (opened : List Bool) (w : List ℕ) (n left : ℕ) (r : Rising Table) (at : ℕ) → Entering opened w n (suc left) r at →
-      Ok (Entering opened w n left) (taskStep s opened r at)
+  task-ok : (opened : List Bool) (w : List ℕ) (n left : ℕ) (r : Rising Table) (at : ℕ) → Entering opened w n (suc left) r at
+      → Ok (Entering opened w n left) (taskStep s opened r at)
   unfolding taskStep membersAt
   task-ok opened w n left r at j =
       let t = r .sofar in
@@ -150,7 +153,7 @@ module _ (s : List ℕ) (eight : Bytes s) where
       let k = e .number .0 in
       let x = e .state in
       let none : (p : ℕ) → memberAt (withState t k x) k p ≡ false =
-      λ p. state-reads t (j .shaped) k x (v .low) .members k p ∙ absent t (j .sound) k (j .part .none k (v .least) (v .low)) p in
+      λ p. reads-member (state-reads (j .shaped) (reads-itself t) k x (v .low)) k p ∙ absent t (j .sound) k (j .part .none k (v .least) (v .low)) p in
       same-onward
       (members-ok k x t (v .low) (v .alive) (take at s ++ (numberBytes k ++ stateBytes x)) (e .count) first
       (grown-start k x t (v .low) (j .sound) (j .shaped) (v .alive) (v .awaits)) none (v .bytes))
@@ -171,8 +174,8 @@ module _ (s : List ℕ) (eight : Bytes s) where
     pub opens : t .opened ≡ opened
     pub bytes : take at s ≡ w ++ listed (liveAt t) (taskBytes t) 32
 
-  tasks-ok : (h : Head) (w : List ℕ) (first : ℕ) → length (h .opened) ≡ 16 → take first s ≡ w ++ numberBytes (h .count) →
-      Ok (TasksRead (h .opened) w) (tasksAt s h first)
+  tasks-ok : (h : Head) (w : List ℕ) (first : ℕ) → length (h .opened) ≡ 16 → take first s ≡ w ++ numberBytes (h .count)
+      → Ok (TasksRead (h .opened) w) (tasksAt s h first)
   unfolding tasksAt each
   tasks-ok h w first l b =
       let o = h .opened in

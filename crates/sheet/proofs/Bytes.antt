@@ -7,8 +7,8 @@ use native.Mathlib.Omega.{arith}
 use lib.Dec.{ltb}
 use borrow.Author.Tests.{ltb-true}
 use Rattle.hall.specs.Table.{openAt, stateAt, memberAt}
-use Rattle.hall.specs.declared.table.State.{State}
-use Rattle.hall.specs.declared.table.State.the-variants.{Free, Running, Blocked}
+use Rattle.states.specs.declared.state.State.{State}
+use Rattle.states.specs.declared.state.State.the-variants.{Free, Running, Blocked}
 use Rattle.hall.specs.declared.table.Table.{Table}
 use Rattle.sheet.specs.Figures.{further}
 use Rattle.sheet.specs.Number.{groupsOf, numberBytes}

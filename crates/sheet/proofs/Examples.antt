@@ -5,8 +5,9 @@ use mathlib.Core.Bool.{true}
 use mathlib.Core.List.{List, [], _∷_}
 use lib.ListN.{length}
 use Rattle.hall.specs.Effects.{withState, withEntry}
-use Rattle.hall.specs.Table.{event, stateAt, openAt, memberAt, phaseAt, freshTable}
-use Rattle.hall.specs.declared.table.State.the-variants.{Blocked}
+use Rattle.states.specs.State.{event}
+use Rattle.hall.specs.Table.{stateAt, openAt, memberAt, phaseAt, freshTable}
+use Rattle.states.specs.declared.state.State.the-variants.{Blocked}
 use Rattle.hall.specs.declared.table.Table.{Table}
 use Rattle.sheet.specs.Got.{refused, each}
 use Rattle.sheet.specs.Number.{plainAt, numberAt, risingAt, numberBytes}

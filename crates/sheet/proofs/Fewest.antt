@@ -7,12 +7,12 @@ use native.Mathlib.Omega.{arith}
 use lib.Dec.{eqb, leb, ltb}
 use lib.ListN.{length, getD, replicate}
 use borrow.Author.Tests.{leb-false, ltb-true}
-use Rattle.hall.specs.Table.{largestPhase}
+use Rattle.states.specs.State.{largestPhase}
 use Rattle.hall.specs.Effects.{withState}
 use Rattle.hall.specs.declared.table.Table.{Table}
 use Rattle.sheet.specs.declared.entry.Entry.{Entry}
 use Rattle.sheet.specs.declared.head.Head.{Head}
-use Rattle.sheet.specs.Answers.{endsInside, needlessGroup, tooLarge, notRising, unknown, bytesAfter, notOpen}
+use Rattle.answers.specs.Answers.{endsInside, needlessGroup, tooLarge, notRising, unknown, bytesAfter, notOpen}
 use Rattle.sheet.specs.Got.{Got, Rising, rising, each}
 use Rattle.sheet.specs.Figures.{further}
 use Rattle.sheet.specs.Number.{groupsAt, plainAt, numberAt, risingAt}

@@ -43,8 +43,9 @@ module _ (f : ℕ → Bool) (g : ℕ → List ℕ) (a : ℕ) where
   skipped zero h e = let z : a ≡ 0 = omega arith in rw z (refl, refl)
   skipped (suc b) h e = go (leb a b) refl (skipped b)
     where
-      go : (c : Bool) → leb a b ≡ c → (a ≤ b → ((i : ℕ) → a ≤ i → i < b → f i ≡ false) → (count f b ≡ count f a) × (gather f g b ≡ gather f g a)) →
-          (count f (suc b) ≡ count f a) × (gather f g (suc b) ≡ gather f g a)
+      go : (c : Bool) → leb a b ≡ c
+          → (a ≤ b → ((i : ℕ) → a ≤ i → i < b → f i ≡ false) → (count f b ≡ count f a) × (gather f g b ≡ gather f g a))
+          → (count f (suc b) ≡ count f a) × (gather f g (suc b) ≡ gather f g a)
       go true l ih = rw (e b (leb-true a b l) (omega arith)) (ih (leb-true a b l) (λ i x y. e i x (omega arith)))
       go false l ih = let z : a ≡ suc b = omega (arith, leb-false a b l) in rw z (refl, refl)
 
@@ -59,10 +60,11 @@ pub part-start : (s : List ℕ) (n : ℕ) (f : ℕ → Bool) (g : ℕ → List �
 part-start s n f g N at e = record { bytes = sym (append-nil _); high = omega arith; none = λ i x y. e i; counted = omega arith }
 
 -- one more, of number p
-pub part-step : (s w : List ℕ) (n : ℕ) (f f' : ℕ → Bool) (g g' : ℕ → List ℕ) (N left floor at next p : ℕ) →
-    Part s w n f g N (suc left) floor at → floor ≤ p → p < N →
-    ((i : ℕ) → ¬ (i ≡ p) → f' i ≡ f i) → f' p ≡ true → ((i : ℕ) → ¬ (i ≡ p) → i < N → g' i ≡ g i) → take next s ≡ take at s ++ g' p →
-    Part s w n f' g' N left (p + 1) next
+pub part-step : (s w : List ℕ) (n : ℕ) (f f' : ℕ → Bool) (g g' : ℕ → List ℕ) (N left floor at next p : ℕ)
+    → Part s w n f g N (suc left) floor at → floor ≤ p → p < N
+    → ((i : ℕ) → ¬ (i ≡ p) → f' i ≡ f i) → f' p ≡ true → ((i : ℕ) → ¬ (i ≡ p) → i < N → g' i ≡ g i)
+    → take next s ≡ take at s ++ g' p
+    → Part s w n f' g' N left (p + 1) next
 part-step s w n f f' g g' N left floor at next p h l hp fs fp gs b =
     let k = skipped f g floor p l (λ i x y. h .none i x (omega arith)) in
     let c : gather f' g' p ≡ gather f g floor = gather-same f' f g' g p (λ i x. fs i (omega arith)) (λ i x y. gs i (omega arith) (omega arith)) ∙ k .1 in
@@ -76,8 +78,8 @@ part-step s w n f f' g g' N left floor at next p h l hp fs fp gs b =
     }
 
 -- all are read
-pub part-done : (s w : List ℕ) (n : ℕ) (f : ℕ → Bool) (g : ℕ → List ℕ) (N floor at : ℕ) →
-    Part s (w ++ numberBytes n) n f g N 0 floor at → take at s ≡ w ++ listed f g N
+pub part-done : (s w : List ℕ) (n : ℕ) (f : ℕ → Bool) (g : ℕ → List ℕ) (N floor at : ℕ)
+    → Part s (w ++ numberBytes n) n f g N 0 floor at → take at s ≡ w ++ listed f g N
 unfolding listed
 part-done s w n f g N floor at h =
     let k = skipped f g floor N (h .high) (h .none) in

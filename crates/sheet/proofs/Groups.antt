@@ -8,7 +8,7 @@ use native.Mathlib.Omega.{arith}
 use lib.Dec.{eqb}
 use lib.ListN.{length, getD}
 use borrow.Author.Tests.{eqb-false, ne-eqb, lt-ltb, le-ltb, lt-leb, le-leb}
-use Rattle.sheet.specs.Answers.{endsInside, needlessGroup, tooLarge}
+use Rattle.answers.specs.Answers.{endsInside, needlessGroup, tooLarge}
 use Rattle.sheet.specs.Got.{Got, value, refused, onward}
 use Rattle.sheet.specs.Figures.{further}
 use Rattle.sheet.specs.Number.{carried, groupsAt}
@@ -40,12 +40,12 @@ module _ (low w : ℕ) (s : List ℕ) (at : ℕ) where
   pub over-zero : (left : ℕ) → 0 < left → at < length s → getD s at 0 ≡ 0 → refused needlessGroup ≡ over low w (groupsAt left s at)
   over-zero (suc m) h l e = rw (lt-leb (length s) at l, e)
 
-  pub over-last : (left : ℕ) → 0 < left → at < length s → ¬ (getD s at 0 ≡ 0) → getD s at 0 < 128 →
-      value (low + getD s at 0 * w) (at + 1) ≡ over low w (groupsAt left s at)
+  pub over-last : (left : ℕ) → 0 < left → at < length s → ¬ (getD s at 0 ≡ 0) → getD s at 0 < 128
+      → value (low + getD s at 0 * w) (at + 1) ≡ over low w (groupsAt left s at)
   over-last (suc m) h l e b = rw (lt-leb (length s) at l, lt-ltb _ 128 b, ne-eqb _ 0 e)
 
-  pub over-turn : (left : ℕ) → 0 < left → at < length s → 128 ≤ getD s at 0 →
-      over (low + (getD s at 0 - 128) * w) (w * 128) (groupsAt (left - 1) s (at + 1)) ≡ over low w (groupsAt left s at)
+  pub over-turn : (left : ℕ) → 0 < left → at < length s → 128 ≤ getD s at 0
+      → over (low + (getD s at 0 - 128) * w) (w * 128) (groupsAt (left - 1) s (at + 1)) ≡ over low w (groupsAt left s at)
   over-turn (suc m) h l b =
       let e : suc m - 1 ≡ m = omega arith in
       rw (e, lt-leb (length s) at l, le-ltb (getD s at 0) 128 b) (sym (over-carried low w (getD s at 0 - 128) (groupsAt m s (at + 1))))

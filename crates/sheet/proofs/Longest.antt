@@ -5,14 +5,17 @@ use mathlib.Core.List.{List, _++_}
 use mathlib.Core.Bool.{Bool, true, false}
 use native.Mathlib.Omega.{arith}
 use lib.ListN.{length, replicate, length-append, length-replicate, getD-replicate}
-use Rattle.hall.specs.Sound.{Sound, entrySound, stateSound, entriesSound, statesSound, soundOf}
-use Rattle.hall.specs.Table.{largestPhase, event, stateAt, openAt, memberAt, phaseAt, isLive, freeTask, phase0, Shaped}
-use Rattle.hall.specs.declared.table.Phase.{Phase}
-use Rattle.hall.specs.declared.table.State.{State}
-use Rattle.hall.specs.declared.table.State.the-variants.{Blocked}
+use Rattle.hall.specs.Sound.{Sound}
+use Rattle.hall.specs.Parts.{entriesSound, statesSound, soundOf}
+use Rattle.states.specs.Parts.{entrySound, stateSound}
+use Rattle.states.specs.State.{largestPhase, event, isLive, freeTask, phase0}
+use Rattle.hall.specs.Table.{stateAt, openAt, memberAt, phaseAt, Shaped}
+use Rattle.states.specs.declared.state.Phase.{Phase}
+use Rattle.states.specs.declared.state.State.{State}
+use Rattle.states.specs.declared.state.State.the-variants.{Blocked}
 use Rattle.hall.specs.declared.table.Table.{Table}
-use Rattle.hall.specs.declared.table.Task.{Task}
-use Rattle.hall.proofs.Lists.{every-all}
+use Rattle.states.specs.declared.state.Task.{Task}
+use Rattle.hall.proofs.Every.{every-all}
 use Rattle.hall.proofs.Places.{state-in, open-in, member-in, phase-in}
 use Rattle.hall.proofs.Soundness.{sound-iff}
 use Rattle.sheet.specs.Figures.{longestSheet}
@@ -99,7 +102,7 @@ sound-test = simp (every-all entries 512 entry, every-all states 32 state)
         rw (full-member (i / 16) (i % 16) k p, full-state (i / 16) k, full-open (i % 16) p, full-phase (i / 16) (i % 16) k p) refl
 
     states : ℕ → Bool
-    states k = stateSound fullTable (stateAt fullTable k)
+    states k = stateSound (openAt fullTable) (stateAt fullTable k)
 
     state : (k : ℕ) → k < 32 → states k ≡ true
     state k h = rw (full-state k h, full-open 0 (omega arith)) refl

@@ -47,8 +47,8 @@ module _ (s : List ℕ) (eight : Bytes s) where
       let e = one-group k (getD s at 0) l in
       record { place = rw e; bytes = rw (e, add-one) (take-suc s at 0 h); short = rw e (omega arith); small = omega (arith, pow-pos k) }
 
-  after : (k at : ℕ) → at < length s → 128 ≤ getD s at 0 → (v next : ℕ) → ¬ (v ≡ 0) → Stands k s (at + 1) v next →
-      Stands (suc k) s at (getD s at 0 - 128 + v * 128) next
+  after : (k at : ℕ) → at < length s → 128 ≤ getD s at 0 → (v next : ℕ) → ¬ (v ≡ 0) → Stands k s (at + 1) v next
+      → Stands (suc k) s at (getD s at 0 - 128 + v * 128) next
   after k at h b v next nz n =
       let x : ℕ = getD s at 0 - 128 + v * 128 in
       let m : x % 128 + 128 ≡ getD s at 0 = omega (arith, eight at) in
@@ -79,7 +79,8 @@ pub record Read (s : List ℕ) (m floor at v next : ℕ) : Type 0 where
   pub least : floor ≤ v
 
 -- the same number, between others
-within : {s : List ℕ} {m m′ floor floor′ at v next : ℕ} → Read s m floor at v next → v ≤ m′ → floor′ ≤ v → Read s m′ floor′ at v next
+within : {s : List ℕ} {m m′ floor floor′ at v next : ℕ} → Read s m floor at v next → v ≤ m′ → floor′ ≤ v
+    → Read s m′ floor′ at v next
 within r most least = record { place = r .place; bytes = r .bytes; short = r .short; most = most; least = least }
 
 module _ (s : List ℕ) (eight : Bytes s) where
@@ -113,13 +114,13 @@ front s at b l e = record {
   behind = sym (drop-drop 1 at s) ∙ ap (drop 1) e;
 }
 
-groups-read : (k n : ℕ) (s : List ℕ) (at : ℕ) (rest : List ℕ) → n < 128 ^ k → drop at s ≡ groupsOf k n ++ rest → 0 < k →
-    groupsAt k s at ≡ value n (at + length (groupsOf k n))
+groups-read : (k n : ℕ) (s : List ℕ) (at : ℕ) (rest : List ℕ) → n < 128 ^ k → drop at s ≡ groupsOf k n ++ rest → 0 < k
+    → groupsAt k s at ≡ value n (at + length (groupsOf k n))
 groups-read (suc k) n s at rest h e pos = go (groups-read k (n / 128) s (at + 1) rest) (ltb n 128) refl
   where
-    go : (n / 128 < 128 ^ k → drop (at + 1) s ≡ groupsOf k (n / 128) ++ rest → 0 < k →
-        groupsAt k s (at + 1) ≡ value (n / 128) (at + 1 + length (groupsOf k (n / 128)))) →
-        (b : Bool) → ltb n 128 ≡ b → groupsAt (suc k) s at ≡ value n (at + length (groupsOf (suc k) n))
+    go : (n / 128 < 128 ^ k → drop (at + 1) s ≡ groupsOf k (n / 128) ++ rest → 0 < k
+        → groupsAt k s (at + 1) ≡ value (n / 128) (at + 1 + length (groupsOf k (n / 128))))
+        → (b : Bool) → ltb n 128 ≡ b → groupsAt (suc k) s at ≡ value n (at + length (groupsOf (suc k) n))
     go ih true t =
         let f : Front s at n rest = front s at n rest (rw t at e) in
         rw (t, lt-leb (length s) at (f .inside), f .byte, t)

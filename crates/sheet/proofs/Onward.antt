@@ -34,8 +34,8 @@ unfoldable pub going : {A : Type 0} → (Rising A → ℕ → Got (Rising A)) �
 going step left floor a at = onward (times step left (rising floor a) at) (λ r next. value (r .sofar) next)
 
 module _ {A : Type 0} (step : Rising A → ℕ → Got (Rising A)) (floor : ℕ) (a : A) (at : ℕ) where
-  pub going-turn : (left : ℕ) {up next : ℕ} {b : A} → 0 < left → step (rising floor a) at ≡ value (rising up b) next →
-      going step (left - 1) up b next ≡ going step left floor a at
+  pub going-turn : (left : ℕ) {up next : ℕ} {b : A} → 0 < left → step (rising floor a) at ≡ value (rising up b) next
+      → going step (left - 1) up b next ≡ going step left floor a at
   unfolding going
   going-turn (suc m) h e = let z : suc m - 1 ≡ m = omega arith in rw (z, e)
 
@@ -59,9 +59,9 @@ module _ {A : Type 0} (step : Rising A → ℕ → Got (Rising A)) where
   gone-start (Refused n) left floor a = refl
 
   -- a turn, after which the reading goes on from `up`
-  pub gone-turn : (before after : Place) (left floor up up′ : ℕ) (a b : A) → 0 < left → left ≡ remainingOf before left →
-      step (rising floor a) (nextOf before) ≡ placed after (rising up b) → ((next : ℕ) → after ≡ At next → up′ ≡ up) →
-      gone step after (remainingOf after (left - 1)) up′ b ≡ gone step before left floor a
+  pub gone-turn : (before after : Place) (left floor up up′ : ℕ) (a b : A) → 0 < left → left ≡ remainingOf before left
+      → step (rising floor a) (nextOf before) ≡ placed after (rising up b) → ((next : ℕ) → after ≡ At next → up′ ≡ up)
+      → gone step after (remainingOf after (left - 1)) up′ b ≡ gone step before left floor a
   unfolding gone
   gone-turn (At at) (At next) left floor up up′ a b h e g same = rw (same next refl) (going-turn step floor a at left h g)
   gone-turn (At at) (Refused n) left floor up up′ a b h e g same = going-refused step floor a at left h g

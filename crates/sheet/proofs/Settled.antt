@@ -8,7 +8,7 @@ use lib.Dec.{eqb, leb, ltb}
 use lib.ListN.{length, getD, take, replicate, length-take}
 use lib.Seq.{getD-take}
 use borrow.Author.Tests.{eqb-true, le-leb, lt-leb, leb-true, leb-false, ltb-false, le-ltb, lt-ltb}
-use Rattle.hall.specs.Table.{largestPhase}
+use Rattle.states.specs.State.{largestPhase}
 use Rattle.hall.specs.Effects.{withState}
 use Rattle.hall.specs.declared.table.Table.{Table}
 use Rattle.sheet.specs.declared.entry.Entry.{Entry}
@@ -74,8 +74,8 @@ module _ (s s' : List ℕ) (eight : Bytes s) (n : ℕ) (same : (i : ℕ) → i <
       (λ o. same-onward (number largestPhase second (omega arith)) (λ v next f. fine (omega (arith, f .place, f .short))))
       (λ o. none tt))
 
-  membership : (c : ℕ) (opened : List Bool) (floor at : ℕ) → at + (longestEvent + c) ≤ n →
-      Same (Left c) (membershipAt s opened floor at) (membershipAt s' opened floor at)
+  membership : (c : ℕ) (opened : List Bool) (floor at : ℕ) → at + (longestEvent + c) ≤ n
+      → Same (Left c) (membershipAt s opened floor at) (membershipAt s' opened floor at)
   unfolding membershipAt
   membership c opened floor at h = same-onward (event c opened floor at h) (λ e next l. fine l)
 
@@ -88,8 +88,8 @@ module _ (s s' : List ℕ) (eight : Bytes s) (n : ℕ) (same : (i : ℕ) → i <
       (λ y. let w = one e (omega (arith, eqb-true kind 1 y)) in same-onward (event c opened 0 next (omega arith)) (λ v at l. fine l))
       (λ y. none tt)))
 
-  entry : (c : ℕ) (opened : List Bool) (floor at : ℕ) → at + (longestEntry + c) ≤ n →
-      Same (λ e next. next + (e .count * longestEvent + c) ≤ n) (entryAt s opened floor at) (entryAt s' opened floor at)
+  entry : (c : ℕ) (opened : List Bool) (floor at : ℕ) → at + (longestEntry + c) ≤ n
+      → Same (λ e next. next + (e .count * longestEvent + c) ≤ n) (entryAt s opened floor at) (entryAt s' opened floor at)
   unfolding entryAt entryOn countOn
   entry c opened floor at h =
       same-onward (rises 31 floor at (omega arith)) (λ k second e.
@@ -97,8 +97,8 @@ module _ (s s' : List ℕ) (eight : Bytes s) (n : ℕ) (same : (i : ℕ) → i <
       same-onward (state (1 + 16 * longestEvent + c) opened second (omega arith)) (λ x third f.
       same-onward (number 16 third (omega arith)) (λ m next g. let y = one g (omega (arith, g .most)) in fine {a = entryOf k x m} (omega (arith, g .most)))))
 
-  members : (c : ℕ) (opened : List Bool) (t : Table) (e : Entry) (at : ℕ) → at + (e .count * longestEvent + c) ≤ n →
-      Same (Left c) (membersAt s opened t e at) (membersAt s' opened t e at)
+  members : (c : ℕ) (opened : List Bool) (t : Table) (e : Entry) (at : ℕ) → at + (e .count * longestEvent + c) ≤ n
+      → Same (Left c) (membersAt s opened t e at) (membersAt s' opened t e at)
   unfolding membersAt each memberStep
   members c opened t e at h =
       let k = e .number .0 in

@@ -7,13 +7,14 @@ use native.Mathlib.Omega.{arith}
 use lib.Dec.{ltb}
 use lib.ListN.{set, length}
 use Rattle.hall.specs.Effects.{withState, withEntry}
+use Rattle.hall.specs.Table.{joined}
 use Rattle.hall.specs.declared.table.Table.{Table}
 use Rattle.sheet.specs.declared.entry.Entry.{Entry}
 use Rattle.sheet.specs.declared.entry.Membership.{Membership}
 use Rattle.sheet.specs.declared.head.Head.{Head}
 use Rattle.sheet.specs.declared.place.Place.{Place}
 use Rattle.sheet.specs.declared.place.Place.the-variants.{At, Refused}
-use Rattle.sheet.specs.Answers.{bytesAfter}
+use Rattle.answers.specs.Answers.{bytesAfter}
 use Rattle.sheet.specs.Got.{value, refused, onward, Rising, rising, each}
 use Rattle.sheet.specs.Parts.{placed, remainingOf, endedOf}
 use Rattle.sheet.specs.Number.{risingAt}
@@ -38,21 +39,21 @@ made (Refused n) a f = refl
 
 -- ---- the steps of the loops over tasks and memberships, from what their parts were read to
 module _ (s : List ℕ) (opened : List Bool) (floor at : ℕ) (t : Table) (place : Place) where
-  pub member-made : (k : ℕ) (m : Membership) → placed place m ≡ membershipAt s opened floor at →
-      memberStep s opened k (rising floor t) at ≡ placed place (rising (m .phaser .0 + 1) (withEntry t k (m .phaser .0) true (m .phase .0)))
+  pub member-made : (k : ℕ) (m : Membership) → placed place m ≡ membershipAt s opened floor at
+      → memberStep s opened k (rising floor t) at ≡ placed place (rising (m .phaser .0 + 1) (withEntry t k (m .phaser .0) (joined (m .phase .0))))
   unfolding memberStep
   member-made k m h =
-      rw (← h) (sym (made place m (λ (m : Membership). rising (m .phaser .0 + 1) (withEntry t k (m .phaser .0) true (m .phase .0)))))
+      rw (← h) (sym (made place m (λ (m : Membership). rising (m .phaser .0 + 1) (withEntry t k (m .phaser .0) (joined (m .phase .0))))))
 
   -- `end` and `u` are where the memberships end and the table with them
-  pub task-made : (e : Entry) (end : Place) (u : Table) → placed place e ≡ entryAt s opened floor at →
-      placed end u ≡ gone (memberStep s opened (e .number .0)) place (e .count) 0 (withState t (e .number .0) (e .state)) →
-      taskStep s opened (rising floor t) at ≡ placed end (rising (e .number .0 + 1) u)
+  pub task-made : (e : Entry) (end : Place) (u : Table) → placed place e ≡ entryAt s opened floor at
+      → placed end u ≡ gone (memberStep s opened (e .number .0)) place (e .count) 0 (withState t (e .number .0) (e .state))
+      → taskStep s opened (rising floor t) at ≡ placed end (rising (e .number .0 + 1) u)
   unfolding taskStep membersAt each gone going
   task-made e end u h g = rw (← h) (go place g)
     where
-      go : (place : Place) → placed end u ≡ gone (memberStep s opened (e .number .0)) place (e .count) 0 (withState t (e .number .0) (e .state)) →
-          onward (placed place e) (membersAt s opened t) ≡ placed end (rising (e .number .0 + 1) u)
+      go : (place : Place) → placed end u ≡ gone (memberStep s opened (e .number .0)) place (e .count) 0 (withState t (e .number .0) (e .state))
+          → onward (placed place e) (membersAt s opened t) ≡ placed end (rising (e .number .0 + 1) u)
       go (At first) g = rw (← g) (sym (made end u (λ v. rising (e .number .0 + 1) v)))
       go (Refused n) g = onward-refused end g
         where
@@ -70,16 +71,16 @@ ended-made s t (At at) = go (ltb at (length s))
 ended-made s t (Refused n) = refl
 
 module _ (s : List ℕ) (h : Head) where
-  all-made : (first : Place) →
-      onward (placed first h) (entriesAt s) ≡ onward (gone (taskStep s (h .opened)) first (h .count) 0 (noTasks (h .opened))) (endedAt s)
+  all-made : (first : Place)
+      → onward (placed first h) (entriesAt s) ≡ onward (gone (taskStep s (h .opened)) first (h .count) 0 (noTasks (h .opened))) (endedAt s)
   unfolding entriesAt tasksAt each gone going
   all-made (At at) = refl
   all-made (Refused n) = refl
 
   -- no task is left to read
-  pub entries-made : (first place : Place) (all left floor : ℕ) (t : Table) → all ≡ remainingOf first (h .count) → left ≡ 0 →
-      gone (taskStep s (h .opened)) place left floor t ≡ gone (taskStep s (h .opened)) first all 0 (noTasks (h .opened)) →
-      placed (endedOf s place) t ≡ onward (placed first h) (entriesAt s)
+  pub entries-made : (first place : Place) (all left floor : ℕ) (t : Table) → all ≡ remainingOf first (h .count) → left ≡ 0
+      → gone (taskStep s (h .opened)) place left floor t ≡ gone (taskStep s (h .opened)) first all 0 (noTasks (h .opened))
+      → placed (endedOf s place) t ≡ onward (placed first h) (entriesAt s)
   entries-made first place all left floor t a l g =
       let step = taskStep s (h .opened) in
       let none = noTasks (h .opened) in

@@ -6,24 +6,30 @@ use mathlib.Core.Logic.{⊎-elim}
 use mathlib.Core.Bool.{Bool, true, false}
 use lib.ListN.{length}
 use borrow.Author.Tests.{le-leb}
-use Rattle.hall.specs.Table.{largestPhase, stateAt, openAt, memberAt, phaseAt, isLive, freshTable, Shaped}
+use Rattle.states.specs.State.{largestPhase, isLive}
+use Rattle.hall.specs.Table.{stateAt, openAt, memberAt, phaseAt, joined, freshTable, Shaped}
 use Rattle.hall.specs.Effects.{withState, withEntry}
 use Rattle.hall.specs.Sound.{Sound}
-use Rattle.hall.specs.declared.table.State.{State}
-use Rattle.hall.specs.declared.table.State.the-variants.{Free}
+use Rattle.states.specs.declared.state.State.{State}
 use Rattle.hall.specs.declared.table.Table.{Table}
-use Rattle.hall.proofs.Lists.{clash, decide}
-use Rattle.hall.proofs.Written.{Reads, put-here, put-other, put-at-other, state-shaped, state-reads, entry-shaped, entry-reads}
-use Rattle.hall.proofs.Soundness.{awaitSound, FineTable, sound-fine, fine-sound, sound-iff, fresh-shaped, fresh-reads, reads-fine, put-state, put-entry}
+use Rattle.states.proofs.Truth.{clash, decide}
+use Rattle.hall.proofs.Written.{entryAt, same-member, same-phase, Reads, reads-itself, put-here, put-other, put-at-other, state-shaped}
+use Rattle.hall.proofs.Written.{state-reads, entry-shaped, entry-reads}
+use Rattle.states.specs.Parts.{stateSound}
+use Rattle.hall.proofs.Soundness.{FineTable, sound-fine, fine-sound, sound-iff, fresh-shaped, nothing, fresh-reads, reads-fine, stated-fine}
+use Rattle.hall.proofs.Soundness.{entered-fine}
 use Rattle.sheet.specs.Reader.{noTasks}
 use Rattle.sheet.specs.Written.{memberBytes, taskBytes}
 use Rattle.sheet.proofs.Gather.{listed-same}
 
 -- ---- a task that stays as it was
-same-bytes : (t u : Table) (i : ℕ) → stateAt u i ≡ stateAt t i → ((p : ℕ) → memberAt u i p ≡ memberAt t i p) →
-    ((p : ℕ) → phaseAt u i p ≡ phaseAt t i p) → taskBytes u i ≡ taskBytes t i
-same-bytes t u i e m n =
-    rw (e, listed-same (memberAt u i) (memberAt t i) (memberBytes u i) (memberBytes t i) 16 (λ p l. m p) (λ p l x. rw (n p)))
+same-bytes : (t u : Table) (i : ℕ) → stateAt u i ≡ stateAt t i → ((p : ℕ) → entryAt u i p ≡ entryAt t i p) → taskBytes u i ≡ taskBytes t i
+same-bytes t u i e same =
+    rw (
+      e,
+      listed-same (memberAt u i) (memberAt t i) (memberBytes u i) (memberBytes t i) 16 (λ p l. same-member (same p))
+          (λ p l x. rw (same-phase (same p))),
+    )
 
 -- ---- soundness
 meaning : (t : Table) → FineTable t → Sound t
@@ -47,49 +53,48 @@ pub record Grown (k : ℕ) (x : State) (t u : Table) : Type 0 where
   pub others : (i : ℕ) → ¬ (i ≡ k) → taskBytes u i ≡ taskBytes t i
 
 module _ (k : ℕ) (x : State) (t : Table) (low : k < 32) where
-  pub grown-start : Sound t → Shaped t → isLive x ≡ true → awaitSound (openAt t) x ≡ true → Grown k x t (withState t k x)
+  pub grown-start : Sound t → Shaped t → isLive x ≡ true → stateSound (openAt t) x ≡ true → Grown k x t (withState t k x)
   unfolding withState
   grown-start h z l a =
       let u = withState t k x in
-      let r = state-reads t z k x low in
+      let r = state-reads z (reads-itself t) k x low in
       let states : (i : ℕ) → ¬ (i ≡ k) → stateAt u i ≡ stateAt t i = λ i d. r .states i ∙ put-other (stateAt t) k x i d in
       record {
-        sound = meaning u (reads-fine u r (put-state (sound-fine t (sound-iff t .1 h)) k x (λ p m. l) a));
+        sound = meaning u (reads-fine r (stated-fine (sound-fine t (sound-iff t .1 h)) k x (λ p m. l) a));
         shaped = state-shaped t z k x;
         opens = refl;
         state = r .states k ∙ put-here (stateAt t) k x;
         states = states;
-        others = λ i d. same-bytes t u i (states i d) (r .members i) (r .phases i);
+        others = λ i d. same-bytes t u i (states i d) (r .entries i);
       }
 
-  pub grown-more : (u : Table) → Grown k x t u → isLive x ≡ true → (p n : ℕ) → p < 16 → openAt t p ≡ true → n ≤ largestPhase →
-      Grown k x t (withEntry u k p true n)
+  pub grown-more : (u : Table) → Grown k x t u → isLive x ≡ true → (p n : ℕ) → p < 16 → openAt t p ≡ true → n ≤ largestPhase
+      → Grown k x t (withEntry u k p (joined n))
   unfolding withEntry
   grown-more u g l p n hp o m =
-      let v = withEntry u k p true n in
-      let r = entry-reads u (g .shaped) k p true n low hp in
+      let v = withEntry u k p (joined n) in
+      let r = entry-reads (g .shaped) (reads-itself u) k p (joined n) low hp in
       record {
-        sound = meaning v (reads-fine v r
-            (put-entry (sound-fine u (sound-iff u .1 (g .sound))) k p true n
+        sound = meaning v (reads-fine r
+            (entered-fine (sound-fine u (sound-iff u .1 (g .sound))) k p (joined n)
             (simp (ap isLive (g .state) ∙ l, same-open t u (g .opens) p ∙ o, le-leb n largestPhase m))));
-        shaped = entry-shaped u (g .shaped) k p true n;
+        shaped = entry-shaped u (g .shaped) k p (joined n);
         opens = g .opens;
         state = r .states k ∙ g .state;
         states = λ i d. r .states i ∙ g .states i d;
         others = λ i d.
-            same-bytes u v i (r .states i) (λ q. r .members i q ∙ put-at-other (memberAt u) k p true i q (λ x. d (x .0)))
-            (λ q. r .phases i q ∙ put-at-other (phaseAt u) k p n i q (λ x. d (x .0)))
+            same-bytes u v i (r .states i) (λ q. r .entries i q ∙ put-at-other (entryAt u) k p (joined n) i q (λ x. d (x .0)))
             ∙ g .others i d;
       }
 
 -- ---- no task yet
 module _ (o : List Bool) where
-  pub none-reads : Reads (noTasks o) (λ k. Free) (openAt (noTasks o)) (λ k p. false) (λ k p. 0)
+  pub none-reads : Reads (noTasks o) (record { state = nothing .state; opened = openAt (noTasks o); entry = nothing .entry })
   unfolding freshTable stateAt memberAt phaseAt
-  none-reads = record { states = fresh-reads .states; opens = λ p. refl; members = fresh-reads .members; phases = fresh-reads .phases }
+  none-reads = record { states = fresh-reads .states; opens = λ p. refl; entries = fresh-reads .entries }
 
   pub none-sound : Sound (noTasks o)
-  none-sound = meaning (noTasks o) (reads-fine (noTasks o) none-reads (record { entries = λ k p. refl; awaits = λ k. refl }))
+  none-sound = meaning (noTasks o) (reads-fine none-reads (record { entries = λ k p. refl; awaits = λ k. refl }))
 
   pub none-shaped : length o ≡ 16 → Shaped (noTasks o)
   unfolding freshTable

@@ -7,7 +7,7 @@ use native.Mathlib.Omega.{arith}
 use lib.Dec.{T}
 use lib.ListN.{length, take}
 use borrow.Author.Tests.{ne-eqb}
-use Rattle.hall.specs.Answers.{among}
+use Rattle.answers.specs.Answers.{among}
 use Rattle.hall.specs.Table.{Shaped, freshTable}
 use Rattle.hall.specs.Sound.{Sound}
 use Rattle.hall.specs.declared.table.Table.{Table}

@@ -8,9 +8,10 @@ use lib.Dec.{eqb}
 use lib.ListN.{length, getD, set, replicate, length-set, length-replicate, List·getD-eq-default}
 use lib.Seq.{getD-set-same, getD-set-other, ext-getD}
 use borrow.Author.Tests.{eqb-true, eqb-false}
-use Rattle.hall.specs.Table.{freeTask, phase0, freshTable}
+use Rattle.states.specs.State.{freeTask, phase0}
+use Rattle.hall.specs.Table.{freshTable}
 use Rattle.hall.specs.declared.table.Table.{Table}
-use Rattle.hall.specs.declared.table.Task.{Task}
+use Rattle.states.specs.declared.state.Task.{Task}
 use Rattle.hall.proofs.Soundness.{getD-all}
 use Rattle.sheet.specs.declared.place.Place.{Place}
 use Rattle.sheet.specs.declared.place.Place.the-variants.{At, Refused}
@@ -28,8 +29,8 @@ pub free-start : FreeFrom 0 (replicate 32 freeTask)
 free-start = record { long = length-replicate 32 freeTask; high = omega arith; free = λ j _. getD-all 32 j freeTask }
 
 -- after a task that was read, the floor has risen over it; after a refusal no number is left
-pub free-risen : (s : List ℕ) (opened : List Bool) (floor at k : ℕ) (t u : Table) (place : Place) (task : Task) → k ≤ 31 → FreeFrom floor (t .tasks) →
-    taskStep s opened (rising floor t) at ≡ placed place (rising (k + 1) u) → FreeFrom (risenOf place k) (set (t .tasks) k task)
+pub free-risen : (s : List ℕ) (opened : List Bool) (floor at k : ℕ) (t u : Table) (place : Place) (task : Task) → k ≤ 31 → FreeFrom floor (t .tasks)
+    → taskStep s opened (rising floor t) at ≡ placed place (rising (k + 1) u) → FreeFrom (risenOf place k) (set (t .tasks) k task)
 free-risen s opened floor at k t u (At next) task h f e =
     let rises = task-rises s opened (rising floor t) (rising (k + 1) u) at e in
     record {
@@ -50,8 +51,8 @@ pub record Wiped (n : ℕ) (t : Table) : Type 0 where
   pub members : t .members ≡ replicate 512 false
   pub tasks : FreeFrom n (t .tasks)
 
-pub wipe-one : (n : ℕ) (t : Table) → 0 < n → Wiped n t →
-    Wiped (n - 1) (record { tasks = set (t .tasks) (n - 1) freeTask; opened = t .opened; phases = t .phases; members = t .members })
+pub wipe-one : (n : ℕ) (t : Table) → 0 < n → Wiped n t
+    → Wiped (n - 1) (record { tasks = set (t .tasks) (n - 1) freeTask; opened = t .opened; phases = t .phases; members = t .members })
 wipe-one n t h w = record {
   opened = w .opened;
   phases = w .phases;
@@ -63,8 +64,8 @@ wipe-one n t h w = record {
   };
 }
   where
-    free : (j : ℕ) → n - 1 ≤ j → (b : Bool) → (b ≡ true → j ≡ n - 1) → (b ≡ false → ¬ (j ≡ n - 1)) →
-        getD (set (t .tasks) (n - 1) freeTask) j freeTask ≡ freeTask
+    free : (j : ℕ) → n - 1 ≤ j → (b : Bool) → (b ≡ true → j ≡ n - 1) → (b ≡ false → ¬ (j ≡ n - 1))
+        → getD (set (t .tasks) (n - 1) freeTask) j freeTask ≡ freeTask
     free j l true y d = rw (y refl) (getD-set-same (t .tasks) (n - 1) freeTask freeTask (omega (arith, w .tasks .long, w .tasks .high)))
     free j l false y d = getD-set-other (t .tasks) (n - 1) j freeTask freeTask (d refl) ∙ w .tasks .free j (let e = d refl in omega arith)
 

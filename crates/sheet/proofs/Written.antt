@@ -7,13 +7,14 @@ use native.Mathlib.Omega.{arith}
 use lib.ListN.{length, getD, set, take, drop, replicate, length-append, length-replicate, drop-of-length-le}
 use lib.Seq.{take-all, take-suc, drop-cons, drop-drop, drop-append-seam, length-take-le, set-at}
 use borrow.Author.Tests.{le-ltb}
-use Rattle.hall.specs.Table.{largestPhase, phase0, freeTask, event, stateAt, openAt, memberAt, phaseAt, isLive, Shaped}
+use Rattle.states.specs.State.{largestPhase, phase0, freeTask, event, isLive}
+use Rattle.hall.specs.Table.{stateAt, openAt, memberAt, phaseAt, entryOf, Shaped}
 use Rattle.hall.specs.Effects.{withState, withEntry}
 use Rattle.hall.specs.Sound.{Sound}
-use Rattle.hall.specs.declared.table.State.{State}
-use Rattle.hall.specs.declared.table.State.the-variants.{Free, Running, Blocked}
+use Rattle.states.specs.declared.state.State.{State}
+use Rattle.states.specs.declared.state.State.the-variants.{Free, Running, Blocked}
 use Rattle.hall.specs.declared.table.Table.{Table}
-use Rattle.hall.proofs.Lists.{clash}
+use Rattle.states.proofs.Truth.{clash}
 use Rattle.hall.proofs.Places.{state-in, open-in, member-in, phase-in, open-below}
 use Rattle.hall.proofs.Soundness.{getD-all}
 use Rattle.sheet.specs.Got.{Got, value, refused, onward, times, Rising, rising, each}
@@ -56,8 +57,8 @@ module _ {A : Type 0} (f : A → ℕ → Got A) where
   last-none (value b mid) = refl
   last-none (refused n) = refl
 
-  last-more : (n : ℕ) (g : Got A) → ((b : A) (mid : ℕ) → times f (n + 1) b mid ≡ onward (times f n b mid) f) →
-      onward g (times f (n + 1)) ≡ onward (onward g (times f n)) f
+  last-more : (n : ℕ) (g : Got A) → ((b : A) (mid : ℕ) → times f (n + 1) b mid ≡ onward (times f n b mid) f)
+      → onward g (times f (n + 1)) ≡ onward (onward g (times f n)) f
   last-more n (value b mid) h = h b mid
   last-more n (refused m) h = refl
 
@@ -86,8 +87,8 @@ module _ (s : List ℕ) where
 
   -- ---- a rising list that stands on the sheet is read: what is read so far goes from X 0 to X N
   module _ {A : Type 0} (f : Rising A → ℕ → Got (Rising A)) (F : ℕ → Bool) (G : ℕ → List ℕ) (X : ℕ → A) (N : ℕ)
-      (step : (i at floor : ℕ) (rest : List ℕ) → i < N → F i ≡ true → floor ≤ i → drop at s ≡ G i ++ rest →
-      f (rising floor (X i)) at ≡ value (rising (i + 1) (X (suc i))) (at + length (G i)))
+      (step : (i at floor : ℕ) (rest : List ℕ) → i < N → F i ≡ true → floor ≤ i → drop at s ≡ G i ++ rest
+      → f (rising floor (X i)) at ≡ value (rising (i + 1) (X (suc i))) (at + length (G i)))
       (skip : (i : ℕ) → i < N → F i ≡ false → X i ≡ X (suc i)) where
     -- those below j are read
     abbrev Reached : ℕ → ℕ → Type 0
@@ -113,8 +114,8 @@ module _ (s : List ℕ) where
     unfolding each many whole
     read-each at rest e = rw (run at N (omega arith) rest e .2)
 
-    read-list : (m at : ℕ) (rest : List ℕ) → N ≤ m → m ≤ anyNumber → drop at s ≡ listed F G N ++ rest →
-        onward (numberAt s m at) (λ n first. each f n (X 0) first) ≡ value (X N) (at + length (listed F G N))
+    read-list : (m at : ℕ) (rest : List ℕ) → N ≤ m → m ≤ anyNumber → drop at s ≡ listed F G N ++ rest
+        → onward (numberAt s m at) (λ n first. each f n (X 0) first) ≡ value (X N) (at + length (listed F G N))
     read-list m at rest l a e =
         let n = numberBytes (many F N) in
         let g = whole F G N in
@@ -147,8 +148,9 @@ module _ (t : Table) (h : Sound t) (sh : Shaped t) (s : List ℕ) where
   same-members : length (t .members) ≡ length (replicate 512 false)
   same-members = sh .members ∙ sym (length-replicate 512 false)
 
-  read-event : (p n floor at : ℕ) (rest : List ℕ) → openAt t p ≡ true → n ≤ largestPhase → floor ≤ p → drop at s ≡ (numberBytes p ++ numberBytes n) ++ rest →
-      eventAt s (t .opened) floor at ≡ value (event p n) (at + length (numberBytes p ++ numberBytes n))
+  read-event : (p n floor at : ℕ) (rest : List ℕ) → openAt t p ≡ true → n ≤ largestPhase → floor ≤ p
+      → drop at s ≡ (numberBytes p ++ numberBytes n) ++ rest
+      → eventAt s (t .opened) floor at ≡ value (event p n) (at + length (numberBytes p ++ numberBytes n))
   unfolding eventAt phaseOn
   read-event p n floor at rest o l f e =
       let e1 : drop at s ≡ numberBytes p ++ (numberBytes n ++ rest) = e ∙ append-assoc (numberBytes p) (numberBytes n) rest in
@@ -167,7 +169,7 @@ module _ (t : Table) (h : Sound t) (sh : Shaped t) (s : List ℕ) where
     phase-flat : (p : ℕ) → p < 16 → record { 0 = phaseAt t k p } ≡ getD (t .phases) (k * 16 + p) phase0
     phase-flat p l = ap (λ (n : ℕ). record { 0 = n }) (phase-in t k p hk l)
 
-    joined : (p : ℕ) → p < 16 → memberAt t k p ≡ true → withEntry (upTo (suc k) k p) k p true (phaseAt t k p) ≡ upTo (suc k) k (suc p)
+    joined : (p : ℕ) → p < 16 → memberAt t k p ≡ true → withEntry (upTo (suc k) k p) k p (entryOf true (phaseAt t k p)) ≡ upTo (suc k) k (suc p)
     unfolding upTo withEntry
     joined p l m =
         let i = k * 16 + p in
@@ -191,8 +193,8 @@ module _ (t : Table) (h : Sound t) (sh : Shaped t) (s : List ℕ) where
     all-passed zero l m = refl
     all-passed (suc p) l m = all-passed p (omega arith) m ∙ passed p (omega arith) (m p)
 
-    read-member : (p at floor : ℕ) (rest : List ℕ) → p < 16 → memberAt t k p ≡ true → floor ≤ p → drop at s ≡ memberBytes t k p ++ rest →
-        memberStep s (t .opened) k (rising floor (upTo (suc k) k p)) at ≡ value (rising (p + 1) (upTo (suc k) k (suc p))) (at + length (memberBytes t k p))
+    read-member : (p at floor : ℕ) (rest : List ℕ) → p < 16 → memberAt t k p ≡ true → floor ≤ p → drop at s ≡ memberBytes t k p ++ rest
+        → memberStep s (t .opened) k (rising floor (upTo (suc k) k p)) at ≡ value (rising (p + 1) (upTo (suc k) k (suc p))) (at + length (memberBytes t k p))
     unfolding memberStep membershipAt
     read-member p at floor rest l m f e =
         rw (read-event p (phaseAt t k p) floor at rest (h .open-member k p m) (h .kept k p) f e, joined p l m)
@@ -216,8 +218,8 @@ module _ (t : Table) (h : Sound t) (sh : Shaped t) (s : List ℕ) where
         let e : getD (t .tasks) k freeTask ≡ freeTask = sym state-flat ∙ ap (λ (x : State). record { state = x }) (free (stateAt t k) l) in
         rw (mix-skip freeTask (t .tasks) (replicate 32 freeTask) same-tasks k (omega (arith, sh .tasks)) (e ∙ sym (getD-all 32 k freeTask)))
 
-    read-state : (x : State) (at : ℕ) (rest : List ℕ) → stateAt t k ≡ x → isLive x ≡ true → drop at s ≡ stateBytes x ++ rest →
-        stateOn s (t .opened) at ≡ value x (at + length (stateBytes x))
+    read-state : (x : State) (at : ℕ) (rest : List ℕ) → stateAt t k ≡ x → isLive x ≡ true → drop at s ≡ stateBytes x ++ rest
+        → stateOn s (t .opened) at ≡ value x (at + length (stateBytes x))
     unfolding stateOn blockedAt
     read-state Free at rest x l e = absurd (clash l refl)
     read-state Running at rest x l e = rw (read-plain 0 s at rest e (omega arith))
@@ -237,8 +239,8 @@ module _ (t : Table) (h : Sound t) (sh : Shaped t) (s : List ℕ) where
     unfolding upTo
     next-task = let z : suc k * 16 + 0 ≡ k * 16 + 16 = omega arith in rw z
 
-    read-task : (at floor : ℕ) (rest : List ℕ) → liveAt t k ≡ true → floor ≤ k → drop at s ≡ taskBytes t k ++ rest →
-        taskStep s (t .opened) (rising floor (upTo k k 0)) at ≡ value (rising (k + 1) (upTo (suc k) (suc k) 0)) (at + length (taskBytes t k))
+    read-task : (at floor : ℕ) (rest : List ℕ) → liveAt t k ≡ true → floor ≤ k → drop at s ≡ taskBytes t k ++ rest
+        → taskStep s (t .opened) (rising floor (upTo k k 0)) at ≡ value (rising (k + 1) (upTo (suc k) (suc k) 0)) (at + length (taskBytes t k))
     unfolding taskStep entryAt entryOn countOn membersAt
     read-task at floor rest l f e =
         let n = numberBytes k in
@@ -283,8 +285,8 @@ module _ (t : Table) (h : Sound t) (sh : Shaped t) (s : List ℕ) where
   abbrev tasks : List ℕ
   tasks = whole (liveAt t) (taskBytes t) 32
 
-  read-tasks : (at : ℕ) (rest : List ℕ) → drop at s ≡ tasks ++ rest →
-      tasksAt s (record { version = 1; opened = t .opened; count = many (liveAt t) 32 }) at ≡ value t (at + length tasks)
+  read-tasks : (at : ℕ) (rest : List ℕ) → drop at s ≡ tasks ++ rest
+      → tasksAt s (record { version = 1; opened = t .opened; count = many (liveAt t) 32 }) at ≡ value t (at + length tasks)
   unfolding tasksAt
   read-tasks at rest e =
       rw none-yet
@@ -299,8 +301,8 @@ module _ (t : Table) (h : Sound t) (sh : Shaped t) (s : List ℕ) where
   same-opened : length (t .opened) ≡ length (replicate 16 false)
   same-opened = sh .opened ∙ sym (length-replicate 16 false)
 
-  read-open : (p at floor : ℕ) (rest : List ℕ) → p < 16 → openAt t p ≡ true → floor ≤ p → drop at s ≡ numberBytes p ++ rest →
-      openStep s (rising floor (openUpTo p)) at ≡ value (rising (p + 1) (openUpTo (suc p))) (at + length (numberBytes p))
+  read-open : (p at floor : ℕ) (rest : List ℕ) → p < 16 → openAt t p ≡ true → floor ≤ p → drop at s ≡ numberBytes p ++ rest
+      → openStep s (rising floor (openUpTo p)) at ≡ value (rising (p + 1) (openUpTo (suc p))) (at + length (numberBytes p))
   unfolding openStep openUpTo
   read-open p at floor rest l o f e =
       let y = mix-set false (t .opened) (replicate 16 false) same-opened p (sym o ∙ open-in t p l) (omega (arith, sh .opened)) in

@@ -4,13 +4,13 @@ use mathlib.Core.List.{List}
 use Prim.Native.Nat.{ℕ}
 use lib.Dec.{eqb}
 use lib.ListN.{getD}
-use Rattle.hall.specs.Table.{largestPhase, event}
-use Rattle.hall.specs.declared.table.Event.{Event}
-use Rattle.hall.specs.declared.table.State.{State}
-use Rattle.hall.specs.declared.table.State.the-variants.{Running, Blocked}
+use Rattle.states.specs.State.{largestPhase, event}
+use Rattle.states.specs.declared.state.Event.{Event}
+use Rattle.states.specs.declared.state.State.{State}
+use Rattle.states.specs.declared.state.State.the-variants.{Running, Blocked}
 use Rattle.sheet.specs.declared.entry.Entry.{Entry}
 use Rattle.sheet.specs.declared.entry.Membership.{Membership}
-use Rattle.sheet.specs.Answers.{unknown, notOpen}
+use Rattle.answers.specs.Answers.{unknown, notOpen}
 use Rattle.sheet.specs.Got.{Got, value, refused, onward}
 use Rattle.sheet.specs.Number.{plainAt, numberAt, risingAt}
 

@@ -5,7 +5,7 @@ use Prim.Native.Nat.{ℕ, _+_}
 use lib.Dec.{eqb}
 use lib.ListN.{set, replicate}
 use Rattle.sheet.specs.declared.head.Head.{Head}
-use Rattle.sheet.specs.Answers.{unknown}
+use Rattle.answers.specs.Answers.{unknown}
 use Rattle.sheet.specs.Got.{Got, value, refused, onward, Rising, rising, each}
 use Rattle.sheet.specs.Number.{plainAt, numberAt, risingAt}
 

@@ -4,7 +4,7 @@ use mathlib.Core.List.{List, [], _∷_}
 use Prim.Native.Nat.{ℕ, zero, suc, _+_, _-_, _*_, _/_, _%_}
 use lib.Dec.{ltb, leb, eqb}
 use lib.ListN.{length, getD}
-use Rattle.sheet.specs.Answers.{endsInside, needlessGroup, tooLarge, notRising}
+use Rattle.answers.specs.Answers.{endsInside, needlessGroup, tooLarge, notRising}
 use Rattle.sheet.specs.declared.number.Number.{Number}
 use Rattle.sheet.specs.declared.number.Number.the-variants.{Value, Refused}
 use Rattle.sheet.specs.Figures.{further}

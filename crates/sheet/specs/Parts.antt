@@ -4,7 +4,7 @@ use mathlib.Core.List.{List}
 use Prim.Native.Nat.{ℕ, _+_}
 use lib.Dec.{ltb}
 use lib.ListN.{length}
-use Rattle.sheet.specs.Answers.{bytesAfter}
+use Rattle.answers.specs.Answers.{bytesAfter}
 use Rattle.sheet.specs.declared.number.Number.{Number}
 use Rattle.sheet.specs.declared.number.Number.the-variants.{Value, Refused as NoNumber}
 use Rattle.sheet.specs.declared.place.Place.{Place}

@@ -1,15 +1,16 @@
 -- Document 01, 'The hall sheet', "Fields": the table that a reader makes of them.
-use mathlib.Core.Bool.{Bool, true, false, cond}
+use mathlib.Core.Bool.{Bool, false, cond}
 use mathlib.Core.List.{List}
 use Prim.Native.Nat.{ℕ, _+_}
 use lib.Dec.{ltb}
 use lib.ListN.{replicate, length}
 use Rattle.hall.specs.Effects.{withState, withEntry}
-use Rattle.hall.specs.Table.{phase0, freeTask, freshTable}
+use Rattle.states.specs.State.{phase0, freeTask}
+use Rattle.hall.specs.Table.{joined, freshTable}
 use Rattle.hall.specs.declared.table.Table.{Table}
 use Rattle.sheet.specs.declared.entry.Entry.{Entry}
 use Rattle.sheet.specs.declared.head.Head.{Head}
-use Rattle.sheet.specs.Answers.{bytesAfter}
+use Rattle.answers.specs.Answers.{bytesAfter}
 use Rattle.sheet.specs.Entry.{entryAt, membershipAt}
 use Rattle.sheet.specs.Got.{Got, value, refused, onward, Rising, rising, each}
 use Rattle.sheet.specs.Head.{headAt}
@@ -18,7 +19,7 @@ use Rattle.sheet.specs.Head.{headAt}
 unfoldable pub memberStep : List ℕ → List Bool → ℕ → Rising Table → ℕ → Got (Rising Table)
 memberStep s opened k r at =
     onward (membershipAt s opened (r .floor) at) (λ m next.
-    value (rising (m .phaser .0 + 1) (withEntry (r .sofar) k (m .phaser .0) true (m .phase .0))) next)
+    value (rising (m .phaser .0 + 1) (withEntry (r .sofar) k (m .phaser .0) (joined (m .phase .0)))) next)
 
 -- "each task, rising by number": its state, and its memberships
 unfoldable pub membersAt : List ℕ → List Bool → Table → Entry → ℕ → Got (Rising Table)

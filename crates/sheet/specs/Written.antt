@@ -2,9 +2,10 @@
 use mathlib.Core.Bool.{Bool, cond}
 use mathlib.Core.List.{List, [], _++_}
 use Prim.Native.Nat.{ℕ, zero, suc, _+_}
-use Rattle.hall.specs.Table.{stateAt, openAt, memberAt, phaseAt, isLive}
-use Rattle.hall.specs.declared.table.State.{State}
-use Rattle.hall.specs.declared.table.State.the-variants.{Free, Running, Blocked}
+use Rattle.hall.specs.Table.{stateAt, openAt, memberAt, phaseAt}
+use Rattle.states.specs.State.{isLive}
+use Rattle.states.specs.declared.state.State.{State}
+use Rattle.states.specs.declared.state.State.the-variants.{Free, Running, Blocked}
 use Rattle.hall.specs.declared.table.Table.{Table}
 use Rattle.sheet.specs.Number.{numberBytes}
 

@@ -3,18 +3,18 @@ ghost use mathlib.Core.Path.{_≡_};
 ghost use Prim.Native.Nat.{_≤_};
 ghost use Rattle.sheet.specs.Parts.{placed};
 ghost use Rattle.sheet.specs.Entry.{phaseOn, eventAt, blockedAt, stateOn, countOn, entryOn, entryAt, membershipAt};
-use crate::answers::NOT_OPEN;
-use crate::answers::UNKNOWN;
 use crate::number;
 use crate::number::Number;
 use crate::place::Place;
 use crate::place::after;
-use hall::table::Event;
-use hall::table::LARGEST_PHASE;
-use hall::table::Phase;
-use hall::table::PhaserNo;
-use hall::table::State;
-use hall::table::TaskNo;
+use answers::NOT_OPEN;
+use answers::UNKNOWN;
+use states::state::Event;
+use states::state::LARGEST_PHASE;
+use states::state::Phase;
+use states::state::PhaserNo;
+use states::state::State;
+use states::state::TaskNo;
 
 // A phaser and a phase: of a membership, or of the event that a blocked task awaits.
 pub struct ReadEvent {
@@ -164,7 +164,7 @@ fn entry_on(sheet: &[u8], opened: &[bool; 16], number: TaskNo, at: usize) -> Rea
     count_on(sheet, number, state, next)
 }
 
-pub fn entry_at(sheet: &[u8], opened: &[bool; 16], floor: u64, at: usize) -> ReadEntry
+pub(crate) fn entry_at(sheet: &[u8], opened: &[bool; 16], floor: u64, at: usize) -> ReadEntry
     ensures { λ r. ⌜ (placed (r .place) (r .entry) ≡ entryAt (now (sheet .entry)) (now (opened .entry)) floor at) × (r .entry .number .0 ≤ 31) ⌝ }
 {
     let number = number::rising(sheet, 31, floor, at);
@@ -184,7 +184,12 @@ pub struct ReadMembership {
     pub membership: Membership,
 }
 
-pub fn membership_at(sheet: &[u8], opened: &[bool; 16], floor: u64, at: usize) -> ReadMembership
+pub(crate) fn membership_at(
+    sheet: &[u8],
+    opened: &[bool; 16],
+    floor: u64,
+    at: usize,
+) -> ReadMembership
     ensures { λ r. ⌜
         (placed (r .place) (r .membership) ≡ membershipAt (now (sheet .entry)) (now (opened .entry)) floor at)
         × (r .membership .phaser .0 ≤ 15) ⌝ }

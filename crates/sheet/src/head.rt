@@ -5,11 +5,11 @@ ghost use lib.ListN.{replicate};
 ghost use Rattle.sheet.specs.Got.{each};
 ghost use Rattle.sheet.specs.Parts.{placed};
 ghost use Rattle.sheet.specs.Head.{openStep, opensAt, countAt, listsAt, headAt};
-use crate::answers::UNKNOWN;
 use crate::number;
 use crate::number::Number;
 use crate::place::Place;
 use crate::place::after;
+use answers::UNKNOWN;
 
 // The open phasers.
 pub struct ReadOpens {
@@ -114,7 +114,7 @@ fn lists_at(sheet: &[u8], version: u64, at: usize) -> ReadHead
     count_at(sheet, version, opened, next)
 }
 
-pub fn head_at(sheet: &[u8]) -> ReadHead
+pub(crate) fn head_at(sheet: &[u8]) -> ReadHead
     ensures { λ r. ⌜ placed (r .place) (r .head) ≡ headAt (now (sheet .entry)) ⌝ }
 {
     let number = number::plain(sheet, 0);

@@ -1,5 +1,4 @@
 // The hall sheet: its figures, its numbers, and its reader.
-mod answers;
 mod entry;
 pub mod figures;
 mod head;

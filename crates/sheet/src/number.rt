@@ -3,11 +3,11 @@ ghost use mathlib.Core.Path.{_≡_};
 ghost use Prim.Native.Nat.{_<_};
 ghost use Rattle.sheet.specs.Figures.{further};
 ghost use Rattle.sheet.specs.Number.{outcome, carried, groupsAt, plainAt, numberAt, risingAt};
-use crate::answers::ENDS_INSIDE;
-use crate::answers::NEEDLESS_GROUP;
-use crate::answers::NOT_RISING;
-use crate::answers::TOO_LARGE;
 use crate::figures::FURTHER;
+use answers::ENDS_INSIDE;
+use answers::NEEDLESS_GROUP;
+use answers::NOT_RISING;
+use answers::TOO_LARGE;
 
 // A value and the next place, or the refusal.
 pub enum Number {

@@ -2,8 +2,8 @@
 ghost use mathlib.Core.Path.{_≡_};
 ghost use Prim.Native.Nat.{_≤_};
 ghost use Rattle.sheet.specs.Parts.{afterOf, nextOf, remainingOf, risenOf, endedOf};
-use crate::answers::BYTES_AFTER;
 use crate::number::Number;
+use answers::BYTES_AFTER;
 
 // Where the reading goes on, or the refusal that ended it.
 pub enum Place {
@@ -11,7 +11,7 @@ pub enum Place {
     Refused(u32),
 }
 
-pub fn after(number: Number) -> Place
+pub(crate) fn after(number: Number) -> Place
     ensures { λ r. ⌜ r ≡ afterOf number ⌝ }
 {
     match number {
@@ -21,7 +21,7 @@ pub fn after(number: Number) -> Place
 }
 
 // Where the reading goes on; after a refusal it goes nowhere.
-pub fn next(place: Place) -> usize
+pub(crate) fn next(place: Place) -> usize
     ensures { λ r. ⌜ r ≡ nextOf place ⌝ }
 {
     match place {
@@ -31,7 +31,7 @@ pub fn next(place: Place) -> usize
 }
 
 // How many are still to be read: after a refusal none.
-pub fn remaining(place: Place, left: u64) -> u64
+pub(crate) fn remaining(place: Place, left: u64) -> u64
     ensures { λ r. ⌜ r ≡ remainingOf place left ⌝ }
 {
     match place {
@@ -41,7 +41,7 @@ pub fn remaining(place: Place, left: u64) -> u64
 }
 
 // The least number that rises after a task's: after a refusal none does.
-pub fn risen(place: Place, number: u64) -> u64
+pub(crate) fn risen(place: Place, number: u64) -> u64
     requires { ⌜ number ≤ 31 ⌝ }
     ensures { λ r. ⌜ r ≡ risenOf place number ⌝ }
 {
@@ -52,7 +52,7 @@ pub fn risen(place: Place, number: u64) -> u64
 }
 
 // Bytes after the sheet are refused last.
-pub fn ended(sheet: &[u8], place: Place) -> Place
+pub(crate) fn ended(sheet: &[u8], place: Place) -> Place
     ensures { λ r. ⌜ r ≡ endedOf (now (sheet .entry)) place ⌝ }
 {
     let Place::At(at) = place else {

@@ -12,10 +12,10 @@ use crate::place::ended;
 use crate::place::next;
 use crate::place::remaining;
 use crate::place::risen;
-use hall::table::Phase;
-use hall::table::State;
 use hall::table::Table;
-use hall::table::Task;
+use states::state::Phase;
+use states::state::State;
+use states::state::Task;
 
 // These phasers are open, and there is no task.
 fn no_tasks(opened: [bool; 16]) -> Table

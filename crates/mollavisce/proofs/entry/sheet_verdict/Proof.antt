@@ -3,7 +3,7 @@ use mathlib.Core.Path.{_≡_, refl, sym}
 use native.Mathlib.Omega.{arith}
 use borrow.Author.Needs.{needs}
 use borrow.Author.Tests.{eq-eqb, ne-eqb}
-use Rattle.hall.specs.Answers.{done}
+use Rattle.answers.specs.Answers.{done}
 use Rattle.mollavisce.specs.Strip.{stripAfter}
 use Rattle.mollavisce.proofs.Fits.{sheet-fits}
 use Rattle.mollavisce.proofs.entry.sheet_verdict.Statement.{statement}

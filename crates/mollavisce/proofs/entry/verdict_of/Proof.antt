@@ -38,10 +38,11 @@ judge-requires c κs = search needs
 returns-3 : tie.Need-returns-3
 returns-3 c =
     let same = c .before .before .read .ensures in
+    let route = c .before .before .before .before .before .before .args .route in
     record {
       no-route = λ l. absurd (omega (arith, l, c .before .before .before .before .if1 .left));
       refused = λ _ n. absurd (n (sym (ap (λ (s : Sheet). s .answer) same) ∙ c .before .if2 .left));
-      judged = λ _ _. subst (λ (s : Sheet). Judged (s .table) (c .before .before .before .before .before .before .args .route) (c .judge .result)) same (c .judge .ensures);
+      judged = λ _ _. subst (λ (s : Sheet). Judged (s .table) route (c .judge .result)) same (c .judge .ensures);
     }
 
 pub verdict-of-spec : {M : Type 1} → statement M

@@ -1,5 +1,5 @@
 use borrow.Author.Needs.{needs}
-use Rattle.hall.specs.declared.table.State.the-variants.{Blocked}
+use Rattle.states.specs.declared.state.State.the-variants.{Blocked}
 use Rattle.sheet.specs.Entry.{blockedAt}
 use Rattle.sheet.proofs.Steps.{made}
 use Rattle.sheet.proofs.entry.blocked_at.Statement.{statement}

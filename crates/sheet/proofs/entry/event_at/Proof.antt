@@ -5,7 +5,7 @@ use Prim.Native.Nat.{ℕ}
 use borrow.Author.Needs.{needs}
 use native.Mathlib.Omega.{arith}
 use lib.ListN.{getD}
-use Rattle.sheet.specs.Answers.{notOpen}
+use Rattle.answers.specs.Answers.{notOpen}
 use Rattle.sheet.specs.Entry.{phaseOn, eventAt}
 use Rattle.sheet.specs.Got.{value, refused}
 use Rattle.sheet.specs.Number.{risingAt}
@@ -43,8 +43,8 @@ returns c =
 abbrev start : tie.After-number → tie.Start
 start c = c .before .before .before .before
 
-phaser-read : (c : tie.After-number) →
-    risingAt (start c .args .sheet .now) 15 (start c .args .floor) (start c .args .at) ≡ value (c .number .given .0 .0) (c .number .given .0 .1 .0)
+phaser-read : (c : tie.After-number)
+    → risingAt (start c .args .sheet .now) 15 (start c .args .floor) (start c .args .at) ≡ value (c .number .given .0 .0) (c .number .given .0 .1 .0)
 phaser-read c = number-read (c .before .before .rising .ensures) (c .number .given .1)
 
 element-copy-out-if1 : tie.Need-element-copy-out-if1

@@ -5,8 +5,8 @@ use Prim.Native.Nat.{ℕ}
 use native.Mathlib.Omega.{arith}
 use borrow.Author.Needs.{needs}
 use borrow.Author.Tests.{eq-eqb, ne-eqb}
-use Rattle.hall.specs.declared.table.State.the-variants.{Running}
-use Rattle.sheet.specs.Answers.{unknown}
+use Rattle.states.specs.declared.state.State.the-variants.{Running}
+use Rattle.answers.specs.Answers.{unknown}
 use Rattle.sheet.specs.Entry.{blockedAt, stateOn}
 use Rattle.sheet.specs.Got.{value, refused}
 use Rattle.sheet.specs.Number.{plainAt}

@@ -4,7 +4,7 @@ use Prim.Native.Nat.{ℕ}
 use native.Mathlib.Omega.{arith}
 use borrow.Author.Needs.{needs}
 use borrow.Author.Tests.{eq-eqb, ne-eqb}
-use Rattle.sheet.specs.Answers.{unknown}
+use Rattle.answers.specs.Answers.{unknown}
 use Rattle.sheet.specs.Head.{listsAt, headAt}
 use Rattle.sheet.specs.Got.{value, refused}
 use Rattle.sheet.specs.Number.{plainAt}
@@ -39,8 +39,8 @@ no-head-requires-2 : tie.Need-no-head-requires-2
 no-head-requires-2 c κs = search needs
 
 -- the version that was read
-version-read : (c : tie.After-number) →
-    plainAt (c .before .before .before .before .args .sheet .now) 0 ≡ value (c .number .given .0 .0) (c .number .given .0 .1 .0)
+version-read : (c : tie.After-number)
+    → plainAt (c .before .before .before .before .args .sheet .now) 0 ≡ value (c .number .given .0 .0) (c .number .given .0 .1 .0)
 version-read c = number-read (c .before .before .plain .ensures) (c .number .given .1)
 
 -- a version was read, and it is 1; or it is not

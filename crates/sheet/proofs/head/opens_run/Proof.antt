@@ -40,8 +40,8 @@ after-requires c κs = search needs
 abbrev at-loop : tie.After-number Inv-loop μ-loop → tie.At-loop Inv-loop μ-loop
 at-loop c = c .before .before .before .before
 
-phaser-read : (c : tie.After-number Inv-loop μ-loop) →
-    risingAt (at-loop c .before .before .args .sheet .now) 15 (at-loop c .loop .floor) (at-loop c .loop .at)
+phaser-read : (c : tie.After-number Inv-loop μ-loop)
+    → risingAt (at-loop c .before .before .args .sheet .now) 15 (at-loop c .loop .floor) (at-loop c .loop .at)
     ≡ value (c .number .given .0 .0) (c .number .given .0 .1 .0)
 phaser-read c = number-read (c .before .before .rising .ensures) (c .number .given .1)
 

@@ -38,18 +38,20 @@ abbrev μ-loop3 : tie.MeasureT-loop3
 μ-loop3 sheet answer table₀ floor₀ left fault table floor = floor
 
 -- ---- from within a task's memberships back: the membership that was read, its turn, the entry that was read, its turn, the start
-abbrev joined : tie.After-phase Inv-loop2 μ-loop2 Inv-loop μ-loop Inv-loop3 μ-loop3 →
-    tie.After-membership-at Inv-loop2 μ-loop2 Inv-loop μ-loop Inv-loop3 μ-loop3
+abbrev joined : tie.After-phase Inv-loop2 μ-loop2 Inv-loop μ-loop Inv-loop3 μ-loop3
+    → tie.After-membership-at Inv-loop2 μ-loop2 Inv-loop μ-loop Inv-loop3 μ-loop3
 joined c = c .before .before
 
-abbrev member-turn : tie.After-membership-at Inv-loop2 μ-loop2 Inv-loop μ-loop Inv-loop3 μ-loop3 →
-    tie.In-loop2 Inv-loop2 μ-loop2 Inv-loop μ-loop Inv-loop3 μ-loop3
+abbrev member-turn : tie.After-membership-at Inv-loop2 μ-loop2 Inv-loop μ-loop Inv-loop3 μ-loop3
+    → tie.In-loop2 Inv-loop2 μ-loop2 Inv-loop μ-loop Inv-loop3 μ-loop3
 member-turn c = c .before .before .before
 
-abbrev entered : tie.At-loop2 Inv-loop2 μ-loop2 Inv-loop μ-loop Inv-loop3 μ-loop3 → tie.After-entry-at Inv-loop2 μ-loop2 Inv-loop μ-loop Inv-loop3 μ-loop3
+abbrev entered : tie.At-loop2 Inv-loop2 μ-loop2 Inv-loop μ-loop Inv-loop3 μ-loop3
+    → tie.After-entry-at Inv-loop2 μ-loop2 Inv-loop μ-loop Inv-loop3 μ-loop3
 entered c = c .before .before .before
 
-abbrev task-turn : tie.After-entry-at Inv-loop2 μ-loop2 Inv-loop μ-loop Inv-loop3 μ-loop3 → tie.In-loop Inv-loop2 μ-loop2 Inv-loop μ-loop Inv-loop3 μ-loop3
+abbrev task-turn : tie.After-entry-at Inv-loop2 μ-loop2 Inv-loop μ-loop Inv-loop3 μ-loop3
+    → tie.In-loop Inv-loop2 μ-loop2 Inv-loop μ-loop Inv-loop3 μ-loop3
 task-turn c = c .before .before .before
 
 abbrev start : tie.At-loop Inv-loop2 μ-loop2 Inv-loop μ-loop Inv-loop3 μ-loop3 → tie.Start Inv-loop2 μ-loop2 Inv-loop μ-loop Inv-loop3 μ-loop3
@@ -96,8 +98,8 @@ membership-at-requires : tie.Need-membership-at-requires Inv-loop2 μ-loop2 Inv-
 membership-at-requires c κs = search needs
 
 -- task and phaser are the table's
-task-there : (c : tie.After-phase Inv-loop2 μ-loop2 Inv-loop μ-loop Inv-loop3 μ-loop3) →
-    entered (member-turn (joined c) .before) .entry-at .result .entry .number .0 ≤ 31
+task-there : (c : tie.After-phase Inv-loop2 μ-loop2 Inv-loop μ-loop Inv-loop3 μ-loop3)
+    → entered (member-turn (joined c) .before) .entry-at .result .entry .number .0 ≤ 31
 task-there c = entered (member-turn (joined c) .before) .entry-at .ensures .1
 
 phaser-there : (c : tie.After-phase Inv-loop2 μ-loop2 Inv-loop μ-loop Inv-loop3 μ-loop3) → joined c .membership-at .result .membership .phaser .0 ≤ 15
@@ -165,8 +167,8 @@ loop-less c =
     remaining-less (members .loop2 .place) (t .before .loop .left) _ (t .loop-test .taken) (c .remaining4 .ensures)
 
 -- the task's entry and all its memberships are read
-task-read : (c : tie.After-loop2 Inv-loop2 μ-loop2 Inv-loop μ-loop Inv-loop3 μ-loop3) →
-    let read = entered (c .before) in
+task-read : (c : tie.After-loop2 Inv-loop2 μ-loop2 Inv-loop μ-loop Inv-loop3 μ-loop3)
+    → let read = entered (c .before) in
     let loop = task-turn read .before .loop in
     let args = start (task-turn read .before) .args in
     taskStep (args .sheet .now) (args .read .head .opened) (rising (loop .floor) (loop .table)) (nextOf (loop .place))
@@ -213,8 +215,8 @@ enum-told : tie.Need-enum-told Inv-loop2 μ-loop2 Inv-loop μ-loop Inv-loop3 μ-
 enum-told c = search needs
 
 -- all tasks are read, and the end was looked at
-all-read : (c : tie.After-ended Inv-loop2 μ-loop2 Inv-loop μ-loop Inv-loop3 μ-loop3) {end : Place} → c .ended .result ≡ end →
-    let read = start (c .before .before) .args .read in
+all-read : (c : tie.After-ended Inv-loop2 μ-loop2 Inv-loop μ-loop Inv-loop3 μ-loop3) {end : Place} → c .ended .result ≡ end
+    → let read = start (c .before .before) .args .read in
     placed end (c .before .before .loop .table)
     ≡ onward (placed (read .place) (read .head)) (entriesAt (start (c .before .before) .args .sheet .now))
 all-read c e =
