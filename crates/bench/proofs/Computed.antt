@@ -1,4 +1,5 @@
--- The bench: what each row states is what is computed. 33 tests of soundness in a row would be costly, so P11's tables are sound by the law, and only their states are computed.
+-- The bench: what each row states is what is computed. 33 tests of soundness in a row would be costly, so P11's tables are sound by the law, and only their
+-- states are computed.
 use mathlib.Core.Path.{_≡_, refl, ap, sym, _∙_, subst}
 use mathlib.Core.Bool.{true}
 use mathlib.Core.List.{List, [], _∷_, _++_}
@@ -10,33 +11,36 @@ use lib.Dec.{eqb}
 use lib.ListN.{replicate}
 use borrow.Author.Tests.{eqb-true}
 use Rattle.sets.specs.Set.{size}
-use Rattle.deadlock.specs.Steps.{stepOf, goOf, lowOf, onceOf}
+use Rattle.deadlock.specs.Parts.{stepOf, goOf, lowOf, onceOf}
 use Rattle.deadlock.proofs.Found.{places}
 use Rattle.deadlock.proofs.Reached.{ringFrom}
 use Rattle.deadlock.proofs.Twins.{clear, namedOf, nextsOf, ringOf}
-use Rattle.hall.specs.Answers.{done, noneFree}
+use Rattle.answers.specs.Answers.{done, noneFree}
 use Rattle.hall.specs.Calls.{called as calledWith, refused as refusedWith, ruled, openTaskOf, arriveOf, waitAtOf, callOf}
 use Rattle.hall.specs.Effects.{withState, withEntry, withOpen, withoutEntries}
 use Rattle.hall.specs.Every.{every, lowestFrom}
-use Rattle.hall.specs.Sound.{entriesSound, statesSound, soundOf}
+use Rattle.hall.specs.Parts.{entriesSound, statesSound, soundOf}
 use Rattle.hall.specs.Table.{freshTable, memberAt, openAt, phaseAt, stateAt, Shaped}
-use Rattle.hall.specs.Tests.{refusalOf, running, lowestFree, openTaskTests, memberTests, arriveTests, waitAtTests}
+use Rattle.states.specs.Tests.{refusalOf, callerTests, memberTests, arriveTests, waitAtTests}
+use Rattle.hall.specs.Tests.{lowestFree, openTaskTests}
 use Rattle.hall.specs.Waiting.{impedesOf}
 use Rattle.hall.specs.declared.calls.Called.{Called}
-use Rattle.hall.specs.declared.table.State.the-variants.{Free, Running}
+use Rattle.states.specs.declared.state.State.the-variants.{Free, Running}
 use Rattle.hall.specs.declared.table.Table.{Table}
 use Rattle.hall.proofs.Kept.{call-shaped, call-sound}
-use Rattle.hall.proofs.Lists.{every-at}
+use Rattle.hall.proofs.Every.{every-at}
 use Rattle.hall.proofs.Rows.{row-effect, open-task-row, end-task-row}
 use Rattle.hall.proofs.Soundness.{fresh-shaped, fresh-sound}
-use Rattle.judge.specs.Loops.{eventOf}
+use Rattle.states.specs.Parts.{eventOf}
 use Rattle.judge.proofs.One.{routes-agree}
 use Rattle.sets.proofs.Masks.{maskOf}
 use Rattle.judge.proofs.Twins.{rowsOf, namedIn, ringIn, roundIn, judgeOf, judgeOf-judged}
 use Rattle.sheet.specs.Number.{plainAt, numberAt}
-use Rattle.bench.specs.Bench.{Row, judged, called, read, statedOf, after, Holds, Each, openTask, p4, p7, figure2, section2-4, example4-1}
+use Rattle.bench.specs.Bench.{Row, judged, called, read, statedOf, Holds, Each, openTask, p4, p7, figure2, section2-4, example4-1}
 use Rattle.bench.specs.Bench.{example4-1-before, example4-2, example4-3, rows}
-use Rattle.demands.specs.Series.{Call, call, made, Series}
+use Rattle.hall.specs.declared.calls.Call.{Call}
+use Rattle.hall.specs.Calls.{call, callOf}
+use Rattle.demands.specs.Series.{Series, after}
 
 -- ---- P11
 -- the first n tasks run
@@ -52,20 +56,20 @@ record Ready (t : Table) : Type 0 where
   shaped : Shaped t
   sound : soundOf t ≡ true
 
-made-ready : (t : Table) → Ready t → (c : Call) → Ready (made t c .table)
-made-ready t r c = record {
-  shaped = call-shaped t (r .shaped) (c .kind) (c .task) (c .phaser) (c .other);
-  sound = call-sound t (r .shaped) (r .sound) (c .kind) (c .task) (c .phaser) (c .other);
+call-ready : (t : Table) → Ready t → (c : Call) → Ready (callOf t c .table)
+call-ready t r c = record {
+  shaped = call-shaped t (r .shaped) c;
+  sound = call-sound t (r .shaped) (r .sound) c;
 }
 
 -- an opening takes the lowest free number
-opens : (t : Table) → Ready t → (n : ℕ) → lowestFree t ≡ n → n < 32 → made t openTask ≡ calledWith done n (withState t n Running)
+opens : (t : Table) → Ready t → (n : ℕ) → lowestFree t ≡ n → n < 32 → callOf t openTask ≡ calledWith done n (withState t n Running)
 unfolding callOf
 opens t r n e l =
     row-effect (open-task-row t) (record { sound = r .sound; free = omega (arith, e) })
     ∙ ap (λ (k : ℕ). calledWith done k (withState t k Running)) e
 
-opens-next : (n : ℕ) → n < 32 → Ready (opened n) → made (opened n) openTask ≡ calledWith done n (opened (suc n))
+opens-next : (n : ℕ) → n < 32 → Ready (opened n) → callOf (opened n) openTask ≡ calledWith done n (opened (suc n))
 unfolding opened
 opens-next n l r = opens (opened n) r n (lowest-opened n (omega arith)) l
 
@@ -74,7 +78,7 @@ unfolding opened
 ready zero l = record { shaped = fresh-shaped; sound = fresh-sound }
 ready (suc n) l =
     let r = ready n (omega arith) in
-    subst Ready (ap (λ (c : Called). c .table) (opens-next n (omega arith) r)) (made-ready (opened n) r openTask)
+    subst Ready (ap (λ (c : Called). c .table) (opens-next n (omega arith) r)) (call-ready (opened n) r openTask)
 
 -- so many openings, and what comes after them
 module _ (rest : List Call) where
@@ -99,7 +103,7 @@ module _ (rest : List Call) where
 full : Table
 full = opened 32
 
-full-refuses : made full openTask ≡ refusedWith full noneFree
+full-refuses : callOf full openTask ≡ refusedWith full noneFree
 unfolding callOf openTaskOf ruled refusalOf openTaskTests full
 full-refuses = rw (ready 32 (omega arith) .sound, lowest-opened 32 (omega arith)) refl
 
@@ -109,9 +113,9 @@ end4 = call 1 4 0 0
 ended : Table
 ended = withState (withoutEntries full 4 16) 4 Free
 
-full-ends : made full end4 ≡ calledWith done 0 ended
+full-ends : callOf full end4 ≡ calledWith done 0 ended
 unfolding callOf full opened stateAt withState freshTable end4 ended
-full-ends = row-effect (end-task-row full 4) (record { sound = ready 32 (omega arith) .sound; caller = refl })
+full-ends = row-effect (end-task-row full 4) (record { sound = ready 32 (omega arith) .sound; runs = refl })
 
 ended-lowest : lowestFree ended ≡ 4
 unfolding lowestFree lowestFrom stateAt withState withoutEntries ended full opened freshTable
@@ -120,15 +124,15 @@ ended-lowest = refl
 p11-full : Holds (called freshTable (replicate 32 openTask) openTask noneFree 0)
 unfolding opened full
 p11-full =
-    let e = ap (λ (t : Table). made t openTask) (after-openings [] 32 0 (omega arith)) ∙ full-refuses in
+    let e = ap (λ (t : Table). callOf t openTask) (after-openings [] 32 0 (omega arith)) ∙ full-refuses in
     (openings [] 32 0 (omega arith) tt, ap (λ (c : Called). c .answer) e, ap (λ (c : Called). c .value) e)
 
 p11-next : Holds (called freshTable (replicate 32 openTask ++ (call 1 4 0 0 ∷ [])) openTask done 4)
 unfolding opened full end4
 p11-next =
-    let r = subst Ready (ap (λ (c : Called). c .table) full-ends) (made-ready full (ready 32 (omega arith)) end4) in
+    let r = subst Ready (ap (λ (c : Called). c .table) full-ends) (call-ready full (ready 32 (omega arith)) end4) in
     let t = after-openings (end4 ∷ []) 32 0 (omega arith) ∙ ap (λ (c : Called). c .table) full-ends in
-    let e = ap (λ (u : Table). made u openTask) t ∙ opens ended r 4 ended-lowest (omega arith) in (
+    let e = ap (λ (u : Table). callOf u openTask) t ∙ opens ended r 4 ended-lowest (omega arith) in (
       openings (end4 ∷ []) 32 0 (omega arith) (omega (arith, ap (λ (c : Called). c .answer) full-ends), tt),
       ap (λ (c : Called). c .answer) e,
       ap (λ (c : Called). c .value) e,
@@ -156,7 +160,10 @@ abbrev _then_ : {A B : Type 0} → A → B → A × B
 x then y = (x, y)
 
 computed : Each Computes rows
-unfolding rows p4 p7 figure2 section2-4 example4-1 example4-1-before example4-2 example4-3 statedOf judgeOf soundOf entriesSound statesSound every stateAt openAt memberAt phaseAt freshTable withState withEntry withOpen namedIn namedOf clear rowsOf places maskOf impedesOf eventOf roundIn ringIn ringOf nextsOf ringFrom stepOf goOf lowOf onceOf trailingZeros size callOf arriveOf waitAtOf ruled refusalOf arriveTests waitAtTests memberTests running numberAt plainAt
+unfolding rows p4 p7 figure2 section2-4 example4-1 example4-1-before example4-2 example4-3 statedOf judgeOf soundOf entriesSound statesSound every
+    stateAt openAt memberAt phaseAt freshTable withState withEntry withOpen namedIn namedOf clear rowsOf places maskOf impedesOf eventOf roundIn
+    ringIn ringOf nextsOf ringFrom stepOf goOf lowOf onceOf trailingZeros size callOf arriveOf waitAtOf ruled refusalOf arriveTests waitAtTests
+    memberTests callerTests numberAt plainAt
 computed =
     refl then refl then refl then refl then refl then refl then refl then refl then refl then (tt, refl, refl) then (tt, refl, refl) then (tt, refl, refl)
     then p11-full then p11-next then refl then refl then refl then refl then refl then refl then refl then refl then refl then refl then tt

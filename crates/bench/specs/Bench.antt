@@ -4,17 +4,21 @@ use mathlib.Core.Bool.{true}
 use mathlib.Core.List.{List, [], _∷_, _++_}
 use Prim.Native.Nat.{ℕ, _+_, _-_, _^_, _≤_}
 use lib.ListN.{length, replicate}
-use Rattle.hall.specs.Answers.{done, noneFree, phaseTooLarge}
+use Rattle.answers.specs.Answers.{done, noneFree, phaseTooLarge, needlessGroup, tooLarge}
 use Rattle.hall.specs.Effects.{withState, withEntry, withOpen}
-use Rattle.hall.specs.Table.{largestPhase, event, freshTable}
-use Rattle.hall.specs.declared.table.State.the-variants.{Running, Blocked}
+use Rattle.states.specs.State.{largestPhase, event}
+use Rattle.hall.specs.Table.{joined, freshTable}
+use Rattle.states.specs.Waiting.{awaiting}
+use Rattle.states.specs.declared.state.State.the-variants.{Running}
 use Rattle.hall.specs.declared.table.Table.{Table}
+use Rattle.judge.specs.Routes.{largestRoute}
 use Rattle.judge.specs.Verdict.{Judged}
 use Rattle.judge.specs.declared.verdict.Verdict.{Verdict}
-use Rattle.sheet.specs.Answers.{needlessGroup, tooLarge}
 use Rattle.sheet.specs.Got.{Got, value, refused}
 use Rattle.sheet.specs.Number.{numberAt}
-use Rattle.demands.specs.Series.{Call, call, made, Series}
+use Rattle.hall.specs.declared.calls.Call.{Call}
+use Rattle.hall.specs.Calls.{call, callOf}
+use Rattle.demands.specs.Series.{Series, after}
 
 -- ---- what a row states
 pub data Row : Type 0 where
@@ -38,14 +42,9 @@ statedOf named ring = record {
   ring = ring ++ replicate (32 - length ring) 255;
 }
 
--- the table that a series leaves
-abbrev pub after : Table → List Call → Table
-after t [] = t
-after t (c ∷ calls) = after (made t c .table) calls
-
 abbrev pub Holds : Row → Type 0
-Holds (judged t named ring) = (route : ℕ) (v : Verdict) → route ≤ 1 → Judged t route v → v ≡ statedOf named ring
-Holds (called t before c answer val) = Series t before × (made (after t before) c .answer ≡ answer) × (made (after t before) c .value ≡ val)
+Holds (judged t named ring) = (route : ℕ) (v : Verdict) → route ≤ largestRoute → Judged t route v → v ≡ statedOf named ring
+Holds (called t before c answer val) = Series t before × (callOf (after t before) c .answer ≡ answer) × (callOf (after t before) c .value ≡ val)
 Holds (read bytes largest got) = numberAt bytes largest 0 ≡ got
 
 abbrev pub Each : (Row → Type 0) → List Row → Type 0
@@ -55,14 +54,14 @@ Each P (r ∷ rows) = P r × Each P rows
 -- ---- the bench's words
 -- "task k waits (p, n)"; "task k runs"
 abbrev pub waits : Table → ℕ → ℕ → ℕ → Table
-waits t k p n = withState t k (Blocked (event p n))
+waits t k p n = withState t k (awaiting (event p n))
 
 abbrev pub runs : Table → ℕ → Table
 runs t k = withState t k Running
 
 -- "0: 1@0" reads: on phaser 0, task 1 has phase 0
 abbrev pub on : Table → ℕ → ℕ → ℕ → Table
-on t p k n = withEntry (withOpen t p true) k p true n
+on t p k n = withEntry (withOpen t p true) k p (joined n)
 
 abbrev pub openTask : Call
 openTask = call 0 0 0 0

@@ -1,5 +1,4 @@
 -- By whichever route: where two numbers are both a route's or both none's, a verdict by the one is a verdict by the other.
-use mathlib.Core.Path.{_≡_}
 use mathlib.Core.Logic.{_↔_}
 use mathlib.Core.List.{List}
 use Prim.Native.Nat.{ℕ, _<_, _≤_}
@@ -9,13 +8,14 @@ use Rattle.hall.specs.declared.table.Table.{Table}
 use Rattle.judge.specs.Verdict.{Judged}
 use Rattle.judge.specs.declared.verdict.Verdict.{Verdict}
 use Rattle.judge.proofs.Named.{by-route, task-event}
-use Rattle.mollavisce.specs.Entry.{SheetJudged, Entered}
+use Rattle.judge.specs.Routes.{largestRoute}
+use Rattle.mollavisce.specs.Entry.{VerdictOf, Entered}
 
-module _ (given route : ℕ) (alike : (1 < given) ↔ (1 < route)) where
-  there : route ≤ 1 → given ≤ 1
-  there l = go (decLt 1 given)
+module _ (given route : ℕ) (alike : (largestRoute < given) ↔ (largestRoute < route)) where
+  there : route ≤ largestRoute → given ≤ largestRoute
+  there l = go (decLt largestRoute given)
     where
-      go : Dec (1 < given) → given ≤ 1
+      go : Dec (largestRoute < given) → given ≤ largestRoute
       go (yes m) = absurd (omega (arith, alike .0 m))
       go (no m) = omega arith
 
@@ -36,7 +36,7 @@ module _ (given route : ℕ) (alike : (1 < given) ↔ (1 < route)) where
         };
   }
 
-  pub sheet-judged-by : (sheet : List ℕ) (v : Verdict) → SheetJudged sheet given v → SheetJudged sheet route v
+  pub sheet-judged-by : (sheet : List ℕ) (v : Verdict) → VerdictOf sheet given v → VerdictOf sheet route v
   sheet-judged-by sheet v j = record {
     no-route = λ l. j .no-route (alike .1 l);
     refused = λ l. j .refused (there l);

@@ -9,16 +9,16 @@ use lib.Dec.{T, eqb}
 use lib.ListN.{length, drop}
 use lib.Seq.{drop-at}
 use borrow.Author.Tests.{eqb-true}
-use Rattle.hall.specs.Answers.{done, among}
+use Rattle.answers.specs.Answers.{done, among, noRoute, shortStrip}
 use Rattle.hall.specs.Table.{Shaped}
 use Rattle.hall.specs.declared.table.Table.{Table}
-use Rattle.judge.specs.Verdict.{noRoute, nobody, Judged}
+use Rattle.judge.specs.Verdict.{nobody, Judged}
 use Rattle.judge.specs.declared.verdict.Verdict.{Verdict}
 use Rattle.sheet.specs.Answers.{sheetAnswers}
 use Rattle.sheet.specs.Reader.{Sheet, hands, sheetAt}
 use Rattle.sheet.proofs.Numbers.{Bytes}
 use Rattle.sheet.proofs.Theorems.{accepts, no-longer, settled, answers, refused-fresh}
-use Rattle.mollavisce.specs.Entry.{SheetJudged, Entered, shortStrip}
+use Rattle.mollavisce.specs.Entry.{VerdictOf, Entered}
 use Rattle.mollavisce.specs.Strip.{headOf, stripOf, stripAfter, verdictIn}
 use Rattle.mollavisce.proofs.Answers.{judged-answer, entry-answers}
 use Rattle.mollavisce.proofs.Entered.{Way, no-route, short, reached, way, refused-kept}
@@ -26,6 +26,7 @@ use Rattle.mollavisce.proofs.Fits.{sheet-fits}
 use Rattle.mollavisce.proofs.ReadBack.{entered-judged}
 use Rattle.demands.specs.Demands.{SheetOfSound, OfSheet, NamesTheStuck, MeansNever, SheetRead, TableJudged, SheetVerdict, SheetAnswered}
 use Rattle.demands.proofs.Verdicts.{table-judged}
+use Rattle.judge.specs.Routes.{largestRoute}
 
 holds-true : (b : Bool) → T b → b ≡ true
 holds-true true h = refl
@@ -64,42 +65,42 @@ module _ (sheet : List ℕ) (bytes : Bytes sheet) where
   apart n m e = subst T m (subst (λ (k : ℕ). T (among k sheetAnswers)) e (answers sheet bytes))
 
   -- ---- the verdict of a sheet
-  module _ (route : ℕ) (v : Verdict) (j : SheetJudged sheet route v) where
-    fault : route ≤ 1 → v .answer ≡ sheetAt sheet .answer
+  module _ (route : ℕ) (v : Verdict) (j : VerdictOf sheet route v) where
+    fault : route ≤ largestRoute → v .answer ≡ sheetAt sheet .answer
     fault l = judged-answer sheet bytes route v l j
 
     -- of the table whose sheet it is
     of-sheet : (P : Table → Type 0) → ((t : Table) → Shaped t → TableJudged t route v → P t) → v .answer ≡ done → OfSheet sheet P
-    of-sheet P f e t z s q = go (decLt 1 route)
+    of-sheet P f e t z s q = go (decLt largestRoute route)
       where
-        go : Dec (1 < route) → P t
+        go : Dec (largestRoute < route) → P t
         go (yes l) = absurd (omega (arith, e, ap (λ (w : Verdict). w .answer) (j .no-route l)))
         go (no l) =
-            let m : route ≤ 1 = omega arith in
+            let m : route ≤ largestRoute = omega arith in
             let a = accepts sheet bytes t .1 (s, z, q) in
             f t z (table-judged t z route v (subst (λ (u : Table). Judged u route v) (a .1) (j .judged m (a .0))))
 
     pub sheet-verdict : SheetVerdict sheet route v
     sheet-verdict = record {
       is = j;
-      no-route = (λ e. go e (decLt 1 route), λ l. ap (λ (w : Verdict). w .answer) (j .no-route l));
-      accepted = (λ e. yes-or e (decLt 1 route), λ x. fault (x .0) ∙ sound-accepted (x .1));
+      no-route = (λ e. go e (decLt largestRoute route), λ l. ap (λ (w : Verdict). w .answer) (j .no-route l));
+      accepted = (λ e. yes-or e (decLt largestRoute route), λ x. fault (x .0) ∙ sound-accepted (x .1));
       fault = fault;
-      own = own (decLt 1 route);
-      refusal = λ n. refusal n (decLt 1 route) (ℕ-discrete (sheetAt sheet .answer) done);
+      own = own (decLt largestRoute route);
+      refusal = λ n. refusal n (decLt largestRoute route) (ℕ-discrete (sheetAt sheet .answer) done);
       names = λ e. of-sheet (λ t. NamesTheStuck t v) (λ t z x. x .names e) e;
       never = λ e. of-sheet (λ t. MeansNever t v) (λ t z x. x .never e) e;
     }
       where
-        go : v .answer ≡ noRoute → Dec (1 < route) → 1 < route
+        go : v .answer ≡ noRoute → Dec (largestRoute < route) → largestRoute < route
         go e (yes l) = l
         go e (no l) = absurd (apart noRoute refl (sym (fault (omega arith)) ∙ e))
 
-        yes-or : v .answer ≡ done → Dec (1 < route) → (route ≤ 1) × SheetOfSound sheet
+        yes-or : v .answer ≡ done → Dec (largestRoute < route) → (route ≤ largestRoute) × SheetOfSound sheet
         yes-or e (yes l) = absurd (omega (arith, e, ap (λ (w : Verdict). w .answer) (j .no-route l)))
         yes-or e (no l) = (omega arith, accepted-sound (sym (fault (omega arith)) ∙ e))
 
-        own : Dec (1 < route) → among (v .answer) (noRoute ∷ sheetAnswers) ≡ true
+        own : Dec (largestRoute < route) → among (v .answer) (noRoute ∷ sheetAnswers) ≡ true
         own (yes l) = rw (ap (λ (w : Verdict). w .answer) (j .no-route l)) refl
         own (no l) = rw (fault (omega arith)) (later (eqb (sheetAt sheet .answer) noRoute) (holds-true _ (answers sheet bytes)))
           where
@@ -107,7 +108,7 @@ module _ (sheet : List ℕ) (bytes : Bytes sheet) where
             later true e = refl
             later false e = e
 
-        refusal : (v .answer ≡ done → ⊥) → Dec (1 < route) → Dec (sheetAt sheet .answer ≡ done) → v ≡ nobody (v .answer)
+        refusal : (v .answer ≡ done → ⊥) → Dec (largestRoute < route) → Dec (sheetAt sheet .answer ≡ done) → v ≡ nobody (v .answer)
         refusal n (yes l) d = let e = j .no-route l in e ∙ ap nobody (sym (ap (λ (w : Verdict). w .answer) e))
         refusal n (no l) (yes a) = absurd (n (fault (omega arith) ∙ a))
         refusal n (no l) (no a) = let e = j .refused (omega arith) a in e ∙ ap nobody (sym (ap (λ (w : Verdict). w .answer) e))
@@ -138,23 +139,23 @@ module _ (sheet : List ℕ) (bytes : Bytes sheet) (route : ℕ) (before after : 
     never = λ e. sheet-verdict sheet bytes route (verdictIn after) (judged e) .never refl;
   }
     where
-      fault : route ≤ 1 → 38 ≤ length before → answer ≡ sheetAt sheet .answer
+      fault : route ≤ largestRoute → 38 ≤ length before → answer ≡ sheetAt sheet .answer
       fault l m = let y = x .judged l m in y .2 ∙ judged-answer sheet bytes route (y .0) l (y .1)
 
-      judged : answer ≡ done → SheetJudged sheet route (verdictIn after)
+      judged : answer ≡ done → VerdictOf sheet route (verdictIn after)
       judged e = entered-judged sheet route before after (subst (Entered sheet route before after) e x)
 
-      no-such : answer ≡ noRoute → Way sheet route before after answer → 1 < route
+      no-such : answer ≡ noRoute → Way sheet route before after answer → largestRoute < route
       no-such e (no-route l a s) = l
       no-such e (short l m a s) = absurd (omega arith)
       no-such e (reached r) = absurd (apart sheet bytes noRoute refl (sym (fault (r .route-there) (r .long)) ∙ e))
 
-      too-short : answer ≡ shortStrip → Way sheet route before after answer → (route ≤ 1) × (length before < 38)
+      too-short : answer ≡ shortStrip → Way sheet route before after answer → (route ≤ largestRoute) × (length before < 38)
       too-short e (no-route l a s) = absurd (omega arith)
       too-short e (short l m a s) = (l, m)
       too-short e (reached r) = absurd (apart sheet bytes shortStrip refl (sym (fault (r .route-there) (r .long)) ∙ e))
 
-      good : answer ≡ done → Way sheet route before after answer → (route ≤ 1) × (38 ≤ length before) × SheetOfSound sheet
+      good : answer ≡ done → Way sheet route before after answer → (route ≤ largestRoute) × (38 ≤ length before) × SheetOfSound sheet
       good e (no-route l a s) = absurd (omega arith)
       good e (short l m a s) = absurd (omega arith)
       good e (reached r) = (r .route-there, r .long, accepted-sound sheet bytes (sym (fault (r .route-there) (r .long)) ∙ e))

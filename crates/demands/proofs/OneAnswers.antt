@@ -8,6 +8,7 @@ use Rattle.sets.proofs.Widths.{same-members}
 use Rattle.deadlock.specs.Ring.{Next}
 use Rattle.deadlock.specs.Walk.{Row}
 use Rattle.deadlock.proofs.One.{named-one, ring-in-one}
+use Rattle.hall.proofs.One.{blocked-one, edges-one}
 use Rattle.judge.specs.declared.verdict.Verdict.{Verdict}
 use Rattle.judge.proofs.Named.{task-one, event-one}
 use Rattle.judge.proofs.One.{judged-one}
@@ -32,50 +33,79 @@ both p q = p ∙ sym q
 
 pub one-answer : OneAnswer
 one-answer = record {
-  has = λ κ a r r′ e e′. has-one (Has (a .0) (a .1 .0)) r r′;
-  only = λ κ a r r′ e e′. same-members _ r r′;
-  common = λ κ a r r′ e e′. same-members _ r r′;
-  less = λ κ a r r′ e e′. same-members _ r r′;
-  take = λ κ a r r′ e e′. same-members _ r r′;
-  size = λ κ a r r′ e e′. both;
-  lowest = λ κ a r r′ e e′. lowest-one (a .0) r r′;
-  named = λ κ a r r′ e e′. named-one (Row (a .0)) r r′;
-  ring = λ κ a r r′ e e′. ring-in-one (Has (a .1 .0)) (Next (a .0)) r r′;
-  is-free = λ κ a r r′ e e′. both;
-  is-live = λ κ a r r′ e e′. both;
-  is-running = λ κ a r r′ e e′. both;
-  is-blocked = λ κ a r r′ e e′. both;
-  fresh = λ κ a r r′ e e′. both;
-  shaped = λ κ a r r′ e e′ p q. both (p .0) (q .0);
-  state-at = λ κ a r r′ e e′. both;
-  open-at = λ κ a r r′ e e′. both;
-  member-at = λ κ a r r′ e e′. both;
-  phase-at = λ κ a r r′ e e′ p q. ap (λ (n : ℕ). record { 0 = n }) (both p q);
-  is-sound = λ κ a r r′ e e′. both;
-  behind = λ κ a r r′ e e′. both;
-  reached = λ κ a r r′ e e′. both;
-  open-task = λ κ a r r′ e e′. both;
-  end-task = λ κ a r r′ e e′. both;
-  open-phaser = λ κ a r r′ e e′. both;
-  close-phaser = λ κ a r r′ e e′. both;
-  admit = λ κ a r r′ e e′. both;
-  leave = λ κ a r r′ e e′. both;
-  arrive = λ κ a r r′ e e′. both;
-  wait = λ κ a r r′ e e′. both;
-  wait-at = λ κ a r r′ e e′. both;
-  release = λ κ a r r′ e e′. both;
-  call = λ κ a r r′ e e′. both;
-  task-route = λ κ a r r′ e e′. task-one (a .0) r r′;
-  event-route = λ κ a r r′ e e′. event-one (a .0) r r′;
-  judge = λ κ a r r′ e e′. judged-one (a .0) (a .1 .0) r r′;
-  nobody = λ κ a r r′ e e′. both;
-  text-of = λ κ a r r′ e e′ p q. both (p .0) (q .0);
-  plain = λ κ a r r′ e e′ p q. one-number r r′ (both p q);
-  number = λ κ a r r′ e e′ p q. one-number r r′ (both p q);
-  rising = λ κ a r r′ e e′ p q. one-number r r′ (both p q);
-  read = λ κ a r r′ e e′ p q. (ap (λ (s : Sheet). s .table) (both p q), ap (λ (s : Sheet). s .answer) (both p q));
-  verdict-of = λ κ a r r′ e e′. sheet-judged-one _ (a .1 .0) r r′;
-  sheet-verdict = λ κ a r r′ e e′. entered-one _ (a .1 .0) _ r r′ _ _;
+  sets = (
+    λ κ a r r′ e e′. has-one (Has (a .0) (a .1 .0)) r r′,
+    λ κ a r r′ e e′. same-members _ r r′,
+    λ κ a r r′ e e′. same-members _ r r′,
+    λ κ a r r′ e e′. same-members _ r r′,
+    λ κ a r r′ e e′. same-members _ r r′,
+    λ κ a r r′ e e′. same-members _ r r′,
+    λ κ a r r′ e e′. both,
+    λ κ a r r′ e e′. lowest-one (a .0) r r′,
+  );
+  deadlock = (
+    λ κ a r r′ e e′. named-one (Row (a .0)) r r′,
+    λ κ a r r′ e e′. ring-in-one (Has (a .1 .0)) (Next (a .0)) r r′,
+  );
+  states = (
+    λ κ a r r′ e e′. both,
+    λ κ a r r′ e e′. both,
+    λ κ a r r′ e e′. both,
+    λ κ a r r′ e e′. both,
+    λ κ a r r′ e e′. both,
+    λ κ a r r′ e e′. both,
+    λ κ a r r′ e e′. both,
+    λ κ a r r′ e e′. both,
+    λ κ a r r′ e e′. both,
+    λ κ a r r′ e e′. both,
+    λ κ a r r′ e e′. both,
+    λ κ a r r′ e e′. both,
+    λ κ a r r′ e e′. both,
+    λ κ a r r′ e e′. both,
+    λ κ a r r′ e e′. both,
+    λ κ a r r′ e e′. both,
+    λ κ a r r′ e e′. both,
+  );
+  hall = (
+    λ κ a r r′ e e′. both,
+    λ κ a r r′ e e′ p q. both (p .0) (q .0),
+    λ κ a r r′ e e′. both,
+    λ κ a r r′ e e′. both,
+    λ κ a r r′ e e′. both,
+    λ κ a r r′ e e′ p q. ap (λ (n : ℕ). record { 0 = n }) (both p q),
+    λ κ a r r′ e e′. both,
+    λ κ a r r′ e e′. both,
+    λ κ a r r′ e e′. blocked-one (a .0) r r′,
+    λ κ a r r′ e e′. edges-one (a .0) (a .1 .0) r r′,
+    λ κ a r r′ e e′. both,
+    λ κ a r r′ e e′. both,
+    λ κ a r r′ e e′. both,
+    λ κ a r r′ e e′. both,
+    λ κ a r r′ e e′. both,
+    λ κ a r r′ e e′. both,
+    λ κ a r r′ e e′. both,
+    λ κ a r r′ e e′. both,
+    λ κ a r r′ e e′. both,
+    λ κ a r r′ e e′. both,
+    λ κ a r r′ e e′. both,
+  );
+  judge = (
+    λ κ a r r′ e e′. task-one (a .0) r r′,
+    λ κ a r r′ e e′. event-one (a .0) r r′,
+    λ κ a r r′ e e′. judged-one (a .0) (a .1 .0) r r′,
+    λ κ a r r′ e e′. both,
+  );
+  text = λ κ a r r′ e e′ p q. both (p .0) (q .0);
+  sheet = (
+    λ κ a r r′ e e′ p q. one-number r r′ (both p q),
+    λ κ a r r′ e e′ p q. one-number r r′ (both p q),
+    λ κ a r r′ e e′ p q. one-number r r′ (both p q),
+    λ κ a r r′ e e′ p q. (ap (λ (s : Sheet). s .table) (both p q), ap (λ (s : Sheet). s .answer) (both p q)),
+  );
+  mollavisce = (
+    λ κ a r r′ e e′. sheet-judged-one _ (a .1 .0) r r′,
+    λ κ a r r′ e e′. entered-one _ (a .1 .0) _ r r′ _ _,
+  );
 }
 
 -- ---- the functions of this crate, which hand on what others hand back

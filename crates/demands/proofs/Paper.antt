@@ -11,14 +11,15 @@ use borrow.Author.Tests.{eqb-true, eq-eqb}
 use Rattle.sets.specs.Set.{bit, Has}
 use Rattle.hall.specs.Rules.{Phaser, PhaserMap, phaserOf, phasersOf}
 use Rattle.hall.specs.Sound.{Sound}
-use Rattle.hall.specs.Table.{stateAt, memberAt, phaseAt, isLive, event}
+use Rattle.hall.specs.Table.{stateAt, memberAt, phaseAt}
+use Rattle.states.specs.State.{isLive, event}
 use Rattle.hall.specs.Waiting.{BlockedOn, Impedes}
-use Rattle.hall.specs.declared.table.Event.{Event}
-use Rattle.hall.specs.declared.table.State.{State}
-use Rattle.hall.specs.declared.table.State.the-variants.{Free, Running, Blocked}
+use Rattle.states.specs.declared.state.Event.{Event}
+use Rattle.states.specs.declared.state.State.{State}
+use Rattle.states.specs.declared.state.State.the-variants.{Free, Running, Blocked}
 use Rattle.hall.specs.declared.table.Table.{Table}
 use Rattle.hall.proofs.Impeded.{impedes-iff}
-use Rattle.hall.proofs.Lists.{clash}
+use Rattle.states.proofs.Truth.{clash}
 use Rattle.hall.proofs.Maps.{phaser-there, phaser-opens, member-there, member-is}
 use Rattle.judge.proofs.Twins.{namedIn}
 use Rattle.demands.specs.PhaserDeadlocks.{Instruction, await, await-n, TaskMap, InDom, At, Awaits, WaitOn, ImpedeBy, DisjointUnion, StandsFor}

@@ -6,24 +6,29 @@ use Prim.Native.Nat.{ℕ, _<_, _≤_}
 use native.Mathlib.Decide.{ℕ-discrete}
 use native.Mathlib.Omega.{arith}
 use borrow.Author.Tests.{not-true, not-false}
-use Rattle.hall.specs.Calls.{callOf}
+use Rattle.hall.specs.Calls.{endTaskOf, releaseOf, call, callOf}
 use Rattle.hall.specs.Every.{every}
 use Rattle.hall.specs.Rules.{put}
-use Rattle.hall.specs.Sound.{Sound, soundOf}
-use Rattle.hall.specs.Table.{Shaped, stateAt, isLive, isBlocked}
+use Rattle.hall.specs.Sound.{Sound}
+use Rattle.hall.specs.Parts.{soundOf}
+use Rattle.hall.specs.Table.{Shaped, stateAt}
+use Rattle.states.specs.State.{isLive, isBlocked}
 use Rattle.hall.specs.Waiting.{BlockedOn, Impedes, reachedOf}
-use Rattle.hall.specs.declared.table.Event.{Event}
-use Rattle.hall.specs.declared.table.State.{State}
-use Rattle.hall.specs.declared.table.State.the-variants.{Free, Running, Blocked}
+use Rattle.states.specs.Waiting.{Awaited}
+use Rattle.states.specs.declared.state.State.{State}
+use Rattle.states.specs.declared.state.State.the-variants.{Free, Running, Blocked}
 use Rattle.hall.specs.declared.table.Table.{Table}
-use Rattle.hall.proofs.Changes.{blocked-below, end-task-changes, release-changes}
+use Rattle.hall.proofs.Changes.{end-task-changes, release-changes}
 use Rattle.hall.proofs.Frame.{Fewer, fewer-frame, end-fewer, release-fewer}
-use Rattle.hall.proofs.Impeded.{impedes-iff, impedes-below, unreached-impeded}
-use Rattle.hall.proofs.Lists.{clash, every-at, every-find}
+use Rattle.hall.proofs.Impeded.{blocked-below, impedes-iff, impedes-below, unreached-impeded}
+use Rattle.states.proofs.Truth.{clash}
+use Rattle.hall.proofs.Every.{every-at}
+use Rattle.hall.proofs.Lists.{every-find}
 use Rattle.hall.proofs.Rows.{row-accepted, end-task-row, release-row}
 use Rattle.hall.proofs.Soundness.{sound-iff}
 use Rattle.hall.proofs.Written.{put-here, put-other, state-below}
-use Rattle.demands.specs.Series.{Call, made, Accepted, release}
+use Rattle.hall.specs.declared.calls.Call.{Call}
+use Rattle.demands.specs.Series.{Accepted, release}
 use Rattle.demands.proofs.Stuck.{StuckAt}
 use Rattle.deadlock.proofs.Theory.{frame-stuck}
 use Rattle.demands.proofs.Sums.{sum, sum-less}
@@ -67,54 +72,52 @@ put-lightens t t′ u s f states d = record {
   less = omega (arith, ap ahead (states u ∙ put-here (stateAt t) u s));
 }
 
--- as accepted calls, whatever the numbers that they do not use
-module _ (t : Table) (z : Shaped t) (a p o : ℕ) where
-  pub end-lightens : callOf t 1 a p o .answer < 10 → Lightens a t (callOf t 1 a p o .table)
-  unfolding callOf
+-- as accepted calls
+module _ (t : Table) (z : Shaped t) (a : ℕ) where
+  pub end-lightens : endTaskOf t a .answer < 10 → Lightens a t (endTaskOf t a .table)
   end-lightens l =
-      put-lightens t (callOf t 1 a p o .table) a Free (end-fewer t z a p o) (end-task-changes t z a p o l .reads .states)
-      (omega (arith, ap ahead (row-accepted (end-task-row t a) .0 l .caller)))
+      put-lightens t (endTaskOf t a .table) a Free (end-fewer t z a) (end-task-changes t z a l .reads .states)
+      (omega (arith, ap ahead (row-accepted (end-task-row t a) .0 l .runs)))
 
-  pub release-lightens : callOf t 9 a p o .answer < 10 → Lightens a t (callOf t 9 a p o .table)
-  unfolding callOf
+  pub release-lightens : releaseOf t a .answer < 10 → Lightens a t (releaseOf t a .table)
   release-lightens l =
-      put-lightens t (callOf t 9 a p o .table) a Running (release-fewer t z a p o) (release-changes t z a p o l .reads .states)
+      put-lightens t (releaseOf t a .table) a Running (release-fewer t z a) (release-changes t z a l .reads .states)
       (omega (arith, ap ahead (row-accepted (release-row t a) .0 l .blocked)))
 
 -- ---- a step, where anybody can take one
-pub record Step (t : Table) : Type 0 where
+pub record Homeward (t : Table) : Type 0 where
   pub task : ℕ
   pub call : Call
   pub accepted : Accepted t call
-  pub lightens : Lightens task t (made t call .table)
-  pub releases : (e : Event) → BlockedOn t task e → call ≡ release task
+  pub lightens : Lightens task t (callOf t call .table)
+  pub releases : (e : Awaited) → BlockedOn t task e → call ≡ release task
 
-end-step : (t : Table) → Shaped t → soundOf t ≡ true → (a : ℕ) → stateAt t a ≡ Running → Step t
+end-step : (t : Table) → Shaped t → soundOf t ≡ true → (a : ℕ) → stateAt t a ≡ Running → Homeward t
 unfolding callOf
 end-step t z s a q =
-    let l = row-accepted (end-task-row t a) .1 (record { sound = s; caller = q }) in
+    let l = row-accepted (end-task-row t a) .1 (record { sound = s; runs = q }) in
     record {
       task = a;
-      call = record { kind = 1; task = a; phaser = 0; other = 0 };
+      call = call 1 a 0 0;
       accepted = l;
-      lightens = end-lightens t z a 0 0 l;
+      lightens = end-lightens t z a l;
       releases = λ e b. absurd (clash (ap isBlocked (sym q ∙ b)) refl);
     }
 
-release-step : (t : Table) → Shaped t → soundOf t ≡ true → (a : ℕ) (e : Event) → BlockedOn t a e → reachedOf t e ≡ true → Step t
+release-step : (t : Table) → Shaped t → soundOf t ≡ true → (a : ℕ) (e : Awaited) → BlockedOn t a e → reachedOf t e ≡ true → Homeward t
 unfolding callOf
 release-step t z s a e b r =
     let l = row-accepted (release-row t a) .1 (record { sound = s; event = e; blocked = b; reached = r }) in
-    record { task = a; call = release a; accepted = l; lightens = release-lightens t z a 0 0 l; releases = λ f c. refl }
+    record { task = a; call = release a; accepted = l; lightens = release-lightens t z a l; releases = λ f c. refl }
 
 -- ---- or nobody can: each blocked task's event is impeded by a blocked one
 abbrev pub Tight : Table → Type 0
-Tight t = (k : ℕ) (e : Event) → BlockedOn t k e → (u : ℕ) × (f : Event) × BlockedOn t u f × Impedes t u e
+Tight t = (k : ℕ) (e : Awaited) → BlockedOn t k e → (u : ℕ) × (f : Awaited) × BlockedOn t u f × Impedes t u e
 
 -- then the blocked ones are a totally deadlocked set
-pub tight-stuck : (t : Table) → Tight t → (k : ℕ) (e : Event) → BlockedOn t k e → StuckAt t k
+pub tight-stuck : (t : Table) → Tight t → (k : ℕ) (e : Awaited) → BlockedOn t k e → StuckAt t k
 tight-stuck t h k e b = record {
-  set = λ v. (f : Event) × BlockedOn t v f;
+  set = λ v. (f : Awaited) × BlockedOn t v f;
   deadlocked = record {
     member = k;
     some = (e, b);
@@ -137,20 +140,20 @@ none-tight t s h k e b =
     (i .0, w .0, w .1, i .1)
   where
     -- who lives and is not loose is blocked
-    blocked : (u : ℕ) (x : State) → stateAt t u ≡ x → isLive x ≡ true → loose t x ≡ false → (f : Event) × BlockedOn t u f
+    blocked : (u : ℕ) (x : State) → stateAt t u ≡ x → isLive x ≡ true → loose t x ≡ false → (f : Awaited) × BlockedOn t u f
     blocked u Free q l n = absurd (clash l refl)
     blocked u Running q l n = absurd (clash refl n)
     blocked u (Blocked f) q l n = (f, q)
 
-pub look : (t : Table) → Shaped t → soundOf t ≡ true → Step t ⊎ Tight t
+pub look : (t : Table) → Shaped t → soundOf t ≡ true → Homeward t ⊎ Tight t
 look t z s = go (every (λ k. not (loose t (stateAt t k))) 32) refl
   where
-    step : (u : ℕ) (x : State) → stateAt t u ≡ x → loose t x ≡ true → Step t
+    step : (u : ℕ) (x : State) → stateAt t u ≡ x → loose t x ≡ true → Homeward t
     step u Free q h = absurd (clash h refl)
     step u Running q h = end-step t z s u q
     step u (Blocked e) q h = release-step t z s u e q h
 
-    go : (b : Bool) → every (λ k. not (loose t (stateAt t k))) 32 ≡ b → Step t ⊎ Tight t
+    go : (b : Bool) → every (λ k. not (loose t (stateAt t k))) 32 ≡ b → Homeward t ⊎ Tight t
     go true h = inr (none-tight t (sound-iff t .0 s) (λ k l. not-true (loose t (stateAt t k)) (every-at (λ k. not (loose t (stateAt t k))) 32 k h l)))
     go false h =
         let f = every-find (λ k. not (loose t (stateAt t k))) 32 h in

@@ -7,18 +7,19 @@ use Prim.Native.Nat.{ℕ, _<_, _≤_}
 use native.Mathlib.Decide.{decLt}
 use native.Mathlib.Omega.{arith}
 use Rattle.sets.specs.Set.{Has}
-use Rattle.hall.specs.Answers.{done, notSound, among}
+use Rattle.answers.specs.Answers.{done, notSound, among, noRoute}
 use Rattle.hall.specs.Rules.{phasersOf}
-use Rattle.hall.specs.Sound.{Sound, soundOf}
+use Rattle.hall.specs.Sound.{Sound}
+use Rattle.hall.specs.Parts.{soundOf}
 use Rattle.hall.specs.Table.{Shaped}
 use Rattle.hall.specs.declared.table.Table.{Table}
-use Rattle.hall.proofs.Lists.{clash, decide}
+use Rattle.states.proofs.Truth.{clash, decide}
 use Rattle.hall.proofs.Soundness.{sound-iff}
-use Rattle.judge.specs.Verdict.{noRoute, nobody, Judged}
-use Rattle.judge.specs.Routes.{TaskRoute, EventRoute}
+use Rattle.judge.specs.Verdict.{nobody, Judged}
+use Rattle.judge.specs.Routes.{largestRoute, TaskRoute, EventRoute}
 use Rattle.judge.specs.declared.verdict.Verdict.{Verdict}
 use Rattle.judge.proofs.Answers.{Holds, judged-holds, answer-0, answer-41, answer-44}
-use Rattle.judge.proofs.Named.{task-stuck, routes-one}
+use Rattle.judge.proofs.Named.{task-stuck, sets-one}
 use Rattle.demands.specs.Demands.{NamesTheStuck, MeansNever, RoutesAgree, TableJudged}
 use Rattle.demands.specs.Series.{StuckIn, WayOn}
 use Rattle.demands.proofs.Paper.{stuck-iff-deadlocked, stands}
@@ -47,7 +48,7 @@ module _ (t : Table) (z : Shaped t) (s : Sound t) (v : Verdict) (h : Holds t v) 
 
 -- ---- of any table, by any route
 module _ (t : Table) (z : Shaped t) (route : ℕ) (v : Verdict) (j : Judged t route v) where
-  judged-sound : v .answer ≡ done → (route ≤ 1) × (soundOf t ≡ true)
+  judged-sound : v .answer ≡ done → (route ≤ largestRoute) × (soundOf t ≡ true)
   judged-sound = answer-0 t route v j .0
 
   holds : v .answer ≡ done → Holds t v
@@ -55,13 +56,13 @@ module _ (t : Table) (z : Shaped t) (route : ℕ) (v : Verdict) (j : Judged t ro
 
   -- no route, or a table that is not sound; the verdict of nobody
   refusals : (among (v .answer) (done ∷ noRoute ∷ notSound ∷ []) ≡ true) × ((v .answer ≡ done → ⊥) → v ≡ nobody (v .answer))
-  refusals = go (decLt 1 route) (soundOf t) refl
+  refusals = go (decLt largestRoute route) (soundOf t) refl
     where
       refused : (n : ℕ) → v ≡ nobody n → among n (done ∷ noRoute ∷ notSound ∷ []) ≡ true
           → (among (v .answer) (done ∷ noRoute ∷ notSound ∷ []) ≡ true) × ((v .answer ≡ done → ⊥) → v ≡ nobody (v .answer))
       refused n e a = (rw e a, λ x. e ∙ ap nobody (sym (ap (λ (w : Verdict). w .answer) e)))
 
-      go : Dec (1 < route) → (b : Bool) → soundOf t ≡ b
+      go : Dec (largestRoute < route) → (b : Bool) → soundOf t ≡ b
           → (among (v .answer) (done ∷ noRoute ∷ notSound ∷ []) ≡ true) × ((v .answer ≡ done → ⊥) → v ≡ nobody (v .answer))
       go (yes l) b s = refused noRoute (j .no-route l) refl
       go (no l) false s = refused notSound (j .unsound (omega arith) s) refl
@@ -89,7 +90,7 @@ module _ (t : Table) (z : Shaped t) (route : ℕ) (v : Verdict) (j : Judged t ro
 module _ (t : Table) (tasks events : ℕ) (x : TaskRoute t tasks) (y : EventRoute t events) where
   agree : RoutesAgree t tasks events
   agree = record {
-    same = routes-one t tasks events x y;
+    same = sets-one t tasks events x y;
     stuck = λ k. let i = task-stuck t tasks x k in (λ h. stuck-iff t k .1 (i .0 h), λ s. i .1 (stuck-iff t k .0 s));
   }
 

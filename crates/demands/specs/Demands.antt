@@ -8,15 +8,17 @@ use Prim.Native.Nat.{ℕ, _<_, _≤_}
 use lib.ListN.{length, drop, take}
 use Rattle.sets.specs.Set.{Has, size}
 use Rattle.deadlock.specs.Ring.{RingIn}
-use Rattle.hall.specs.Answers.{done, noKind, notSound, among, answersOf}
+use Rattle.answers.specs.Answers.{done, noKind, notSound, among, noRoute, shortStrip}
+use Rattle.hall.specs.Answers.{answersOf}
 use Rattle.hall.specs.Rules.{PhaserMap}
 use Rattle.hall.specs.Sound.{Sound}
 use Rattle.hall.specs.Table.{Shaped, freshTable}
-use Rattle.hall.specs.Waiting.{BlockedOn}
+use Rattle.hall.specs.Waiting.{BlockedOn, ImpedesTask}
 use Rattle.hall.specs.declared.calls.Called.{Called}
-use Rattle.hall.specs.declared.table.Event.{Event}
+use Rattle.states.specs.Waiting.{Awaited}
 use Rattle.hall.specs.declared.table.Table.{Table}
-use Rattle.judge.specs.Verdict.{noRoute, nobody, ImpedesTask, Judged}
+use Rattle.judge.specs.Verdict.{nobody, Judged}
+use Rattle.judge.specs.Routes.{largestRoute}
 use Rattle.judge.specs.declared.verdict.Verdict.{Verdict}
 use Rattle.text.specs.Text.{textWith}
 use Rattle.text.specs.Verdict.{verdictText}
@@ -25,10 +27,12 @@ use Rattle.sheet.specs.Answers.{sheetAnswers}
 use Rattle.sheet.specs.Figures.{longestSheet, settlingBytes}
 use Rattle.sheet.specs.Reader.{hands, sheetAt}
 use Rattle.sheet.specs.Written.{sheetOf}
-use Rattle.mollavisce.specs.Entry.{shortStrip, entryAnswers, SheetJudged, Entered}
+use Rattle.mollavisce.specs.Entry.{entryAnswers, VerdictOf, Entered}
 use Rattle.mollavisce.specs.Strip.{verdictIn}
 use Rattle.demands.specs.PhaserDeadlocks.{TaskMap, StandsFor, DeadlockedWith}
-use Rattle.demands.specs.Series.{StuckIn, Call, made, Never, WayOn}
+use Rattle.demands.specs.Series.{StuckIn, Never, WayOn}
+use Rattle.hall.specs.declared.calls.Call.{Call}
+use Rattle.hall.specs.Calls.{kindCount, callOf}
 
 -- the bytes are the sheet of some sound table
 pub record SheetOfSound (sheet : List ℕ) : Type 0 where
@@ -59,17 +63,17 @@ pub record SameUsed (c d : Call) : Type 0 where
 -- a call c on a table t, and what was handed back
 pub record CallAnswered (t : Table) (c : Call) (r : Called) : Type 0 where
   -- it is the row of document 01's table: so a series of calls (`Series`) is one of what the code hands back
-  pub is : r ≡ made t c
+  pub is : r ≡ callOf t c
   -- "its own number": 42 exactly where there is no such kind; 44 exactly where there is one and the table is not sound; else a number of the kind's row
-  pub no-kind : (r .answer ≡ noKind) ↔ (10 ≤ c .kind)
-  pub not-sound : (r .answer ≡ notSound) ↔ ((c .kind < 10) × (Sound t → ⊥))
-  pub own : c .kind < 10 → Sound t → among (r .answer) (answersOf (c .kind)) ≡ true
+  pub no-kind : (r .answer ≡ noKind) ↔ (kindCount ≤ c .kind)
+  pub not-sound : (r .answer ≡ notSound) ↔ ((c .kind < kindCount) × (Sound t → ⊥))
+  pub own : c .kind < kindCount → Sound t → among (r .answer) (answersOf (c .kind)) ≡ true
   -- "and a value of 0, the table stays as it stood"
   pub refusal : 10 ≤ r .answer → (r .value ≡ 0) × (r .table ≡ t)
   -- "No call makes a sound table unsound." (document 01)
   pub sound : Sound t → Sound (r .table)
   -- "Numbers that a kind doesn't use are not looked at." (document 01)
-  pub unused : (d : Call) → SameUsed c d → made t d ≡ r
+  pub unused : (d : Call) → SameUsed c d → callOf t d ≡ r
 
 -- a sheet, and the reader's answer and table
 pub record SheetRead (sheet : List ℕ) (answer : ℕ) (t : Table) : Type 0 where
@@ -98,9 +102,9 @@ pub record NamesTheStuck (t : Table) (v : Verdict) : Type 0 where
 -- ---- 3. "A blocked task is among them exactly when no series of accepted calls, however long and by whichever tasks, could ever contain an accepted
 -- release of it."
 pub record MeansNever (t : Table) (v : Verdict) : Type 0 where
-  pub never : (k : ℕ) (e : Event) → BlockedOn t k e → Has (v .named) k ↔ Never t k
+  pub never : (k : ℕ) (e : Awaited) → BlockedOn t k e → Has (v .named) k ↔ Never t k
   -- "a task left off the list must have a way to go on"
-  pub way-on : (k : ℕ) (e : Event) → BlockedOn t k e → (Has (v .named) k → ⊥) → WayOn t k
+  pub way-on : (k : ℕ) (e : Awaited) → BlockedOn t k e → (Has (v .named) k → ⊥) → WayOn t k
 
 -- "In every sound table the task-to-task route and the event-to-event route name the same tasks": as the two routes hand them back
 pub record RoutesAgree (t : Table) (tasks events : ℕ) : Type 0 where
@@ -111,9 +115,9 @@ pub record RoutesAgree (t : Table) (tasks events : ℕ) : Type 0 where
 -- the judge's, of a table by a route: "A judge over a table tests 41, then 44; .. on a refusal the verdict of nobody." (document 01)
 pub record TableJudged (t : Table) (route : ℕ) (v : Verdict) : Type 0 where
   pub is : Judged t route v
-  pub no-route : (v .answer ≡ noRoute) ↔ (1 < route)
-  pub not-sound : (v .answer ≡ notSound) ↔ ((route ≤ 1) × (Sound t → ⊥))
-  pub accepted : (v .answer ≡ done) ↔ ((route ≤ 1) × Sound t)
+  pub no-route : (v .answer ≡ noRoute) ↔ (largestRoute < route)
+  pub not-sound : (v .answer ≡ notSound) ↔ ((route ≤ largestRoute) × (Sound t → ⊥))
+  pub accepted : (v .answer ≡ done) ↔ ((route ≤ largestRoute) × Sound t)
   pub own : among (v .answer) (done ∷ noRoute ∷ notSound ∷ []) ≡ true
   pub refusal : (v .answer ≡ done → ⊥) → v ≡ nobody (v .answer)
   pub names : v .answer ≡ done → NamesTheStuck t v
@@ -125,10 +129,10 @@ OfSheet sheet P = (t : Table) → Shaped t → Sound t → sheet ≡ sheetOf t �
 
 -- a sheet's, by a route: 41, then the sheet's own fault
 pub record SheetVerdict (sheet : List ℕ) (route : ℕ) (v : Verdict) : Type 0 where
-  pub is : SheetJudged sheet route v
-  pub no-route : (v .answer ≡ noRoute) ↔ (1 < route)
-  pub accepted : (v .answer ≡ done) ↔ ((route ≤ 1) × SheetOfSound sheet)
-  pub fault : route ≤ 1 → v .answer ≡ sheetAt sheet .answer
+  pub is : VerdictOf sheet route v
+  pub no-route : (v .answer ≡ noRoute) ↔ (largestRoute < route)
+  pub accepted : (v .answer ≡ done) ↔ ((route ≤ largestRoute) × SheetOfSound sheet)
+  pub fault : route ≤ largestRoute → v .answer ≡ sheetAt sheet .answer
   pub own : among (v .answer) (noRoute ∷ sheetAnswers) ≡ true
   pub refusal : (v .answer ≡ done → ⊥) → v ≡ nobody (v .answer)
   pub names : v .answer ≡ done → OfSheet sheet (λ t. NamesTheStuck t v)
@@ -137,10 +141,10 @@ pub record SheetVerdict (sheet : List ℕ) (route : ℕ) (v : Verdict) : Type 0 
 -- the entry's, of a sheet by a route, as it stands in the strip: "Tests: 41, 40, then the sheet." (document 01)
 pub record SheetAnswered (sheet : List ℕ) (route : ℕ) (before after : List ℕ) (answer : ℕ) : Type 0 where
   pub is : Entered sheet route before after answer
-  pub no-route : (answer ≡ noRoute) ↔ (1 < route)
-  pub short : (answer ≡ shortStrip) ↔ ((route ≤ 1) × (length before < 38))
-  pub accepted : (answer ≡ done) ↔ ((route ≤ 1) × (38 ≤ length before) × SheetOfSound sheet)
-  pub fault : route ≤ 1 → 38 ≤ length before → answer ≡ sheetAt sheet .answer
+  pub no-route : (answer ≡ noRoute) ↔ (largestRoute < route)
+  pub short : (answer ≡ shortStrip) ↔ ((route ≤ largestRoute) × (length before < 38))
+  pub accepted : (answer ≡ done) ↔ ((route ≤ largestRoute) × (38 ≤ length before) × SheetOfSound sheet)
+  pub fault : route ≤ largestRoute → 38 ≤ length before → answer ≡ sheetAt sheet .answer
   pub own : among answer entryAnswers ≡ true
   -- "not one byte of the lent answer strip moves"; "Longer strips keep the rest." (document 01)
   pub strip : (answer ≡ done → ⊥) → after ≡ before

@@ -6,17 +6,18 @@ use mathlib.Core.Bool.{true, false}
 use mathlib.Core.Option.{none}
 use Prim.Native.Nat.{ℕ, _+_, _<_, _≤_}
 use Rattle.hall.specs.Additions.{Runs, LowestFree, LowestUnopened, Unused, without, Behind, BehindOwn}
-use Rattle.hall.specs.Answers.{done, waitPassed, nowBlocked}
+use Rattle.answers.specs.Answers.{done, waitPassed, nowBlocked}
 use Rattle.hall.specs.Rules.{put, PhaserMap, NewP, Reg, Dereg, Arrv, AwaitN, AwaitOwn, phasersOf}
 use Rattle.hall.specs.Sound.{Sound}
-use Rattle.hall.specs.Table.{largestPhase, stateAt, openAt, memberAt, phaseAt, event}
+use Rattle.states.specs.State.{largestPhase, event}
+use Rattle.hall.specs.Table.{stateAt, openAt, memberAt, phaseAt}
 use Rattle.hall.specs.Waiting.{BlockedOn}
 use Rattle.hall.specs.declared.calls.Called.{Called}
-use Rattle.hall.specs.declared.table.Event.{Event}
-use Rattle.hall.specs.declared.table.State.{State}
-use Rattle.hall.specs.declared.table.State.the-variants.{Free, Running, Blocked}
+use Rattle.states.specs.Waiting.{Awaited, awaiting}
+use Rattle.states.specs.declared.state.State.{State}
+use Rattle.states.specs.declared.state.State.the-variants.{Free, Running}
 use Rattle.hall.specs.declared.table.Table.{Table}
-use Rattle.demands.specs.Series.{Call}
+use Rattle.hall.specs.declared.calls.Call.{Call}
 
 -- a call that is done, with a value and a next phaser map, exactly where the rule says so; and every task's next state
 pub record Rule (r : Called) (Where : ℕ → PhaserMap → Type 0) (state : ℕ → State) : Type 0 where
@@ -29,7 +30,7 @@ pub record Waits (t : Table) (a p n : ℕ) (r : Called) (Passes Blocks : Type 0)
   pub unchanged : r .answer ≡ waitPassed → (r .value ≡ 0) × (r .table ≡ t)
   pub blocks : (r .answer ≡ nowBlocked) ↔ Blocks
   pub phasers : r .answer ≡ nowBlocked → (r .value ≡ 0) × (phasersOf (r .table) ≡ phasersOf t)
-  pub states : r .answer ≡ nowBlocked → (k : ℕ) → stateAt (r .table) k ≡ put (stateAt t) a (Blocked (event p n)) k
+  pub states : r .answer ≡ nowBlocked → (k : ℕ) → stateAt (r .table) k ≡ put (stateAt t) a (awaiting (event p n)) k
 
 pub record ByRules (t : Table) (c : Call) (r : Called) : Type 0 where
   -- 0 is added: "lowest free number becomes running; value that number"
@@ -65,5 +66,5 @@ pub record ByRules (t : Table) (c : Call) (r : Called) : Type 0 where
       → c .other ≤ largestPhase → r .answer ≡ waitPassed
   -- 9: release, "a call of its own", is [await-n] for a task that is blocked there
   pub release : c .kind ≡ 9
-      → Rule r (λ v M′. Sound t × ((e : Event) × BlockedOn t (c .task) e × AwaitN (e .phaser .0) (e .phase .0) (phasersOf t)) × (v ≡ 0)
+      → Rule r (λ v M′. Sound t × ((e : Awaited) × BlockedOn t (c .task) e × AwaitN (e .phaser .0) (e .phase .0) (phasersOf t)) × (v ≡ 0)
       × (M′ ≡ phasersOf t)) (put (stateAt t) (c .task) Running)

@@ -1,5 +1,5 @@
 -- Document 01, 'How tight the promises are': "For every input the promise of a public function yields one answer, one next table and one content for each
--- lent byte. That two answers allowed by it are equal is itself proved". A line for each public function of the library. `Learnt` is what a caller learns
+-- lent byte. That two answers allowed by it are equal is itself proved". Each public function of the library, by crates. `Learnt` is what a caller learns
 -- of a call: the function's own `ensures`, as the checker has it, over the arguments, the result and what was lent, as it is after the call.
 use mathlib.Core.Path.{_≡_}
 use denote.Ref.{now}
@@ -8,14 +8,28 @@ use Rattle.sets.proofs.only.Reads as sets·only
 use Rattle.sets.proofs.common.Reads as sets·common
 use Rattle.sets.proofs.less.Reads as sets·less
 use Rattle.sets.proofs.take.Reads as sets·take
+use Rattle.sets.proofs.kept.Reads as sets·kept
 use Rattle.sets.proofs.size.Reads as sets·size
 use Rattle.sets.proofs.lowest.Reads as sets·lowest
 use Rattle.deadlock.proofs.elimination.named.Reads as deadlock·named
 use Rattle.deadlock.proofs.ring.ring.Reads as deadlock·ring
-use Rattle.hall.proofs.table.State.is_free.Reads as hall·is-free
-use Rattle.hall.proofs.table.State.is_live.Reads as hall·is-live
-use Rattle.hall.proofs.table.State.is_running.Reads as hall·is-running
-use Rattle.hall.proofs.table.State.is_blocked.Reads as hall·is-blocked
+use Rattle.states.proofs.state.State.is_free.Reads as states·is-free
+use Rattle.states.proofs.state.State.is_live.Reads as states·is-live
+use Rattle.states.proofs.state.State.is_running.Reads as states·is-running
+use Rattle.states.proofs.state.State.is_blocked.Reads as states·is-blocked
+use Rattle.states.proofs.sound.entry_sound.Reads as states·entry-sound
+use Rattle.states.proofs.sound.state_sound.Reads as states·state-sound
+use Rattle.states.proofs.waiting.behind.Reads as states·behind
+use Rattle.states.proofs.waiting.column.Reads as states·column
+use Rattle.states.proofs.waiting.impedes.Reads as states·impedes
+use Rattle.states.proofs.waiting.event_of.Reads as states·event-of
+use Rattle.states.proofs.waiting.awaits.Reads as states·awaits
+use Rattle.states.proofs.waiting.waits_at.Reads as states·waits-at
+use Rattle.states.proofs.tests.caller_refusal.Reads as states·caller-refusal
+use Rattle.states.proofs.tests.member_refusal.Reads as states·member-refusal
+use Rattle.states.proofs.tests.admit_refusal.Reads as states·admit-refusal
+use Rattle.states.proofs.tests.arrive_refusal.Reads as states·arrive-refusal
+use Rattle.states.proofs.tests.wait_at_refusal.Reads as states·wait-at-refusal
 use Rattle.hall.proofs.table.Table.fresh.Reads as hall·fresh
 use Rattle.hall.proofs.table.Table.shaped.Reads as hall·shaped
 use Rattle.hall.proofs.table.Table.state_at.Reads as hall·state-at
@@ -23,7 +37,8 @@ use Rattle.hall.proofs.table.Table.open_at.Reads as hall·open-at
 use Rattle.hall.proofs.table.Table.member_at.Reads as hall·member-at
 use Rattle.hall.proofs.table.Table.phase_at.Reads as hall·phase-at
 use Rattle.hall.proofs.table.Table.is_sound.Reads as hall·is-sound
-use Rattle.hall.proofs.waiting.behind.Reads as hall·behind
+use Rattle.hall.proofs.table.Table.blocked.Reads as hall·blocked
+use Rattle.hall.proofs.table.Table.edges.Reads as hall·edges
 use Rattle.hall.proofs.table.Table.reached.Reads as hall·reached
 use Rattle.hall.proofs.table.Table.open_task.Reads as hall·open-task
 use Rattle.hall.proofs.table.Table.end_task.Reads as hall·end-task
@@ -57,55 +72,22 @@ abbrev pub OneLent : {L B : Type 0} {A R E : L → Type 0} → ((κ : L) → E �
 OneLent {L} {B} {A} {R} {E} lent Learnt =
     (κ : L) (a : A κ) (r r′ : R κ) (e e′ : E κ) → Learnt κ a r e → Learnt κ a r′ e′ → (r ≡ r′) × (lent κ e ≡ lent κ e′)
 
+-- of each crate, in the order of its files
 pub record OneAnswer : Type 1 where
-  -- sets
-  pub has : One sets·has.Learnt
-  pub only : One sets·only.Learnt
-  pub common : One sets·common.Learnt
-  pub less : One sets·less.Learnt
-  pub take : One sets·take.Learnt
-  pub size : One sets·size.Learnt
-  pub lowest : One sets·lowest.Learnt
-  -- deadlock
-  pub named : One deadlock·named.Learnt
-  pub ring : One deadlock·ring.Learnt
-  -- hall
-  pub is-free : One hall·is-free.Learnt
-  pub is-live : One hall·is-live.Learnt
-  pub is-running : One hall·is-running.Learnt
-  pub is-blocked : One hall·is-blocked.Learnt
-  pub fresh : One hall·fresh.Learnt
-  pub shaped : One hall·shaped.Learnt
-  pub state-at : One hall·state-at.Learnt
-  pub open-at : One hall·open-at.Learnt
-  pub member-at : One hall·member-at.Learnt
-  pub phase-at : One hall·phase-at.Learnt
-  pub is-sound : One hall·is-sound.Learnt
-  pub behind : One hall·behind.Learnt
-  pub reached : One hall·reached.Learnt
-  pub open-task : One hall·open-task.Learnt
-  pub end-task : One hall·end-task.Learnt
-  pub open-phaser : One hall·open-phaser.Learnt
-  pub close-phaser : One hall·close-phaser.Learnt
-  pub admit : One hall·admit.Learnt
-  pub leave : One hall·leave.Learnt
-  pub arrive : One hall·arrive.Learnt
-  pub wait : One hall·wait.Learnt
-  pub wait-at : One hall·wait-at.Learnt
-  pub release : One hall·release.Learnt
-  pub call : One hall·call.Learnt
-  -- judge
-  pub task-route : One judge·task-route.Learnt
-  pub event-route : One judge·event-route.Learnt
-  pub judge : One judge·judge.Learnt
-  pub nobody : One judge·nobody.Learnt
-  -- text
-  pub text-of : One text·text-of.Learnt
-  -- sheet
-  pub plain : One sheet·plain.Learnt
-  pub number : One sheet·number.Learnt
-  pub rising : One sheet·rising.Learnt
-  pub read : OneLent (λ κ e. now (e .1 .0)) sheet·read.Learnt
-  -- mollavisce
-  pub verdict-of : One mollavisce·verdict-of.Learnt
-  pub sheet-verdict : OneLent (λ κ e. now (e .1 .1 .0)) mollavisce·sheet-verdict.Learnt
+  pub sets : One sets·has.Learnt × One sets·only.Learnt × One sets·common.Learnt × One sets·less.Learnt × One sets·take.Learnt × One sets·kept.Learnt
+      × One sets·size.Learnt × One sets·lowest.Learnt
+  pub deadlock : One deadlock·named.Learnt × One deadlock·ring.Learnt
+  pub states : One states·is-free.Learnt × One states·is-live.Learnt × One states·is-running.Learnt × One states·is-blocked.Learnt
+      × One states·entry-sound.Learnt × One states·state-sound.Learnt × One states·behind.Learnt × One states·column.Learnt
+      × One states·impedes.Learnt × One states·event-of.Learnt × One states·awaits.Learnt × One states·waits-at.Learnt
+      × One states·caller-refusal.Learnt
+      × One states·member-refusal.Learnt × One states·admit-refusal.Learnt × One states·arrive-refusal.Learnt × One states·wait-at-refusal.Learnt
+  pub hall : One hall·fresh.Learnt × One hall·shaped.Learnt × One hall·state-at.Learnt × One hall·open-at.Learnt × One hall·member-at.Learnt
+      × One hall·phase-at.Learnt × One hall·is-sound.Learnt × One hall·reached.Learnt × One hall·blocked.Learnt × One hall·edges.Learnt
+      × One hall·open-task.Learnt × One hall·end-task.Learnt × One hall·open-phaser.Learnt × One hall·close-phaser.Learnt × One hall·admit.Learnt
+      × One hall·leave.Learnt × One hall·arrive.Learnt × One hall·wait.Learnt × One hall·wait-at.Learnt × One hall·release.Learnt
+      × One hall·call.Learnt
+  pub judge : One judge·task-route.Learnt × One judge·event-route.Learnt × One judge·judge.Learnt × One judge·nobody.Learnt
+  pub text : One text·text-of.Learnt
+  pub sheet : One sheet·plain.Learnt × One sheet·number.Learnt × One sheet·rising.Learnt × OneLent (λ κ e. now (e .1 .0)) sheet·read.Learnt
+  pub mollavisce : One mollavisce·verdict-of.Learnt × OneLent (λ κ e. now (e .1 .1 .0)) mollavisce·sheet-verdict.Learnt

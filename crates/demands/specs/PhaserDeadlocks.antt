@@ -6,9 +6,10 @@ use mathlib.Core.List.{List, _∷_}
 use mathlib.Core.Option.{some, none}
 use Prim.Native.Nat.{ℕ, _<_}
 use Rattle.hall.specs.Rules.{Map, Phaser, PhaserMap, phasersOf}
-use Rattle.hall.specs.Table.{stateAt, isLive}
+use Rattle.hall.specs.Table.{stateAt}
+use Rattle.states.specs.State.{isLive}
 use Rattle.hall.specs.Waiting.{BlockedOn}
-use Rattle.hall.specs.declared.table.Event.{Event}
+use Rattle.states.specs.declared.state.Event.{Event}
 use Rattle.hall.specs.declared.table.Table.{Table}
 
 -- "A task map T maps task names to instruction sequences"; `other` is any instruction but the two awaits

@@ -6,9 +6,9 @@ use mathlib.Core.List.{List, [], _∷_, _++_}
 use Prim.Native.Nat.{ℕ, _<_}
 use Rattle.sets.specs.Set.{Has}
 use Rattle.deadlock.specs.Waiting.{TotallyDeadlocked}
-use Rattle.hall.specs.Calls.{callOf}
+use Rattle.hall.specs.Calls.{call, callOf}
 use Rattle.hall.specs.Waiting.{BlockedOn, Impedes}
-use Rattle.hall.specs.declared.calls.Called.{Called}
+use Rattle.hall.specs.declared.calls.Call.{Call}
 use Rattle.hall.specs.declared.table.Table.{Table}
 
 -- "A task is named when some totally deadlocked set holds it" (document 01, 'Stuck'). A set of tasks is a number, bit k for task k; a law has the same of any
@@ -18,28 +18,19 @@ pub record StuckIn (t : Table) (k : ℕ) : Type 0 where
   pub deadlocked : TotallyDeadlocked (BlockedOn t) (Impedes t) (Has set)
   pub holds : Has set k
 
--- a call: its kind and the numbers that come with it, of any size
-pub record Call : Type 0 where
-  pub kind : ℕ
-  pub task : ℕ
-  pub phaser : ℕ
-  pub other : ℕ
-
-abbrev pub call : ℕ → ℕ → ℕ → ℕ → Call
-call kind task phaser other = record { kind = kind; task = task; phaser = phaser; other = other }
-
--- its answer, its value and the next table
-abbrev pub made : Table → Call → Called
-made t c = callOf t (c .kind) (c .task) (c .phaser) (c .other)
-
 -- "An accepted call is one answered below 10" (document 01)
 abbrev pub Accepted : Table → Call → Type 0
-Accepted t c = made t c .answer < 10
+Accepted t c = callOf t c .answer < 10
 
 -- "series of accepted calls, however long and by whichever tasks": each is accepted in the table that those before it left
 abbrev pub Series : Table → List Call → Type 0
 Series t [] = Unit {0}
-Series t (c ∷ calls) = Accepted t c × Series (made t c .table) calls
+Series t (c ∷ calls) = Accepted t c × Series (callOf t c .table) calls
+
+-- the table that calls leave, accepted or refused
+abbrev pub after : Table → List Call → Table
+after t [] = t
+after t (c ∷ calls) = after (callOf t c .table) calls
 
 -- a release of task k: kind 9
 pub record Releases (k : ℕ) (c : Call) : Type 0 where

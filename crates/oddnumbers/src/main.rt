@@ -1,4 +1,6 @@
 // Calls with odd numbers in each place: a line for each, `kind task phaser other answer value`.
+use hall::calls::Call;
+use hall::calls::KINDS;
 use hall::table::Table;
 
 // Numbers at and past the edges of tasks, phasers, phases, and of narrower widths than theirs.
@@ -30,7 +32,12 @@ const PHASER: u64 = 2;
 const OTHER: u64 = 3;
 
 fn after(table: Table, kind: u64, task: u64, phaser: u64, other: u64) -> Table {
-    let called = table.call(kind, task, phaser, other);
+    let called = table.call(Call {
+        kind,
+        task,
+        phaser,
+        other,
+    });
     called.table
 }
 
@@ -62,7 +69,12 @@ fn number(n: u64) {
 }
 
 fn line(table: Table, kind: u64, task: u64, phaser: u64, other: u64) {
-    let called = table.call(kind, task, phaser, other);
+    let called = table.call(Call {
+        kind,
+        task,
+        phaser,
+        other,
+    });
     number(kind);
     number(task);
     number(phaser);
@@ -111,6 +123,6 @@ fn main() {
     kind_lines(table, 7, 0, 2, 0);
     kind_lines(table, 8, 0, 0, 1);
     kind_lines(table, 9, 1, 0, 0);
-    kind_lines(table, 10, 0, 0, 0);
+    kind_lines(table, KINDS, 0, 0, 0);
     place_lines(table, KIND, 0, 0, 0, 31);
 }

@@ -1,24 +1,32 @@
 // Tables made by hand, one field apart from a sound one: a line for each, `table`, what the judge answers and what the calls answer.
 use crate::output::end;
 use crate::output::number;
-use hall::table::Event;
-use hall::table::Phase;
-use hall::table::PhaserNo;
-use hall::table::State;
+use hall::calls::Call;
+use hall::calls::KINDS;
 use hall::table::Table;
-use hall::table::Task;
+use judge::judge::LARGEST_ROUTE;
 use judge::judge::judge;
+use states::state::Event;
+use states::state::Phase;
+use states::state::PhaserNo;
+use states::state::State;
+use states::state::Task;
 ghost use Prim.Native.Nat.{_<_};
 
-// The judge by routes 0 and 1; then each kind of call, and a kind that there is not.
+// The judge by each route; then each kind of call, and a kind that there is not.
 fn line(table: Table) {
     io::write_all(1, b"table");
-    for route in 0..2u64 {
+    for route in 0..=LARGEST_ROUTE {
         let verdict = judge(table, route);
         number(verdict.answer as u64);
     }
-    for kind in 0..11u64 {
-        let called = table.call(kind, 0, 0, 0);
+    for kind in 0..=KINDS {
+        let called = table.call(Call {
+            kind,
+            task: 0,
+            phaser: 0,
+            other: 0,
+        });
         number(called.answer as u64);
     }
     end();

@@ -1,8 +1,6 @@
 -- The text is that of the sheet's verdict, and none of it is cut.
-use mathlib.Core.Path.{_≡_, ap, _∙_}
 use borrow.Author.Needs.{needs}
 use native.Mathlib.Omega.{arith}
-use Rattle.text.specs.declared.text.Text.{Text}
 use Rattle.text.proofs.Said.{said-whole}
 use Rattle.demands.proofs.ByRoute.{sheet-judged-by}
 use Rattle.demands.proofs.OfSheets.{sheet-verdict}
