@@ -10,7 +10,6 @@ use Rattle.hall.specs.Table.{openAt, stateAt, memberAt}
 use Rattle.states.specs.declared.state.State.{State}
 use Rattle.states.specs.declared.state.State.the-variants.{Free, Running, Blocked}
 use Rattle.hall.specs.declared.table.Table.{Table}
-use Rattle.sheet.specs.Figures.{further}
 use Rattle.sheet.specs.Number.{groupsOf, numberBytes}
 use Rattle.sheet.specs.Written.{count, gather, listed, stateBytes, memberBytes, taskBytes, liveAt, sheetOf}
 use Rattle.sheet.proofs.Numbers.{Bytes}
@@ -46,7 +45,7 @@ eight-groups (suc k) n =
 
 eight-number : (n : ℕ) → Eight (numberBytes n)
 unfolding numberBytes
-eight-number n = eight-groups (suc further) n
+eight-number n = eight-groups 10 n
 
 eight-gather : (f : ℕ → Bool) (g : ℕ → List ℕ) (n : ℕ) → ((i : ℕ) → Eight (g i)) → Eight (gather f g n)
 eight-gather f g zero h = eight-none

@@ -28,7 +28,28 @@ one-group k v h = rw (lt-ltb v 128 h)
 
 pub one-byte : (v : ℕ) → v < 128 → numberBytes v ≡ v ∷ []
 unfolding numberBytes
-one-byte v h = one-group further v h
+one-byte v h = one-group 9 v h
+
+-- a number of 128 or more has a group after its first
+further-one : (k n : ℕ) → n < 128 ^ suc k → 128 ≤ n → 0 < k
+further-one zero n h b = absurd (omega arith)
+further-one (suc k) n h b = omega arith
+
+-- more groups than it takes make no difference
+groups-enough : (k j n : ℕ) → n < 128 ^ k → 0 < k → k ≤ j → groupsOf j n ≡ groupsOf k n
+groups-enough (suc k) (suc j) n h p l = go (ltb n 128) refl (groups-enough k j (n / 128))
+  where
+    go : (b : Bool) → ltb n 128 ≡ b → (n / 128 < 128 ^ k → 0 < k → k ≤ j → groupsOf j (n / 128) ≡ groupsOf k (n / 128))
+        → groupsOf (suc j) n ≡ groupsOf (suc k) n
+    go true t ih = rw t
+    go false t ih = rw (t, ih (omega arith) (further-one k n h (ltb-false n 128 t)) (omega arith))
+groups-enough (suc k) zero n h p l = absurd (omega arith)
+groups-enough zero j n h p l = absurd (omega arith)
+
+-- a number that a reader takes, in as many groups as it may have
+number-groups : (n : ℕ) → n < 128 ^ suc further → numberBytes n ≡ groupsOf (suc further) n
+unfolding numberBytes
+number-groups n h = groups-enough (suc further) 10 n h (omega arith) (omega arith)
 
 -- ---- what was read
 record Stands (k : ℕ) (s : List ℕ) (at v next : ℕ) : Type 0 where
@@ -85,10 +106,12 @@ within r most least = record { place = r .place; bytes = r .bytes; short = r .sh
 
 module _ (s : List ℕ) (eight : Bytes s) where
   pub plain-ok : (at : ℕ) → Ok (Read s anyNumber 0 at) (plainAt s at)
-  unfolding plainAt numberBytes
+  unfolding plainAt
   plain-ok at =
       same-weaker
-      (λ v next n. record { place = n .place; bytes = n .bytes; short = n .short; most = omega (arith, n .small); least = omega arith })
+      (λ v next n.
+      let e = number-groups v (n .small) in
+      record { place = rw e (n .place); bytes = rw e (n .bytes); short = rw e (n .short); most = omega (arith, n .small); least = omega arith })
       (groups-ok s eight (suc further) at)
 
   pub number-ok : (m at : ℕ) → Ok (Read s m 0 at) (numberAt s m at)
@@ -130,16 +153,14 @@ groups-read (suc k) n s at rest h e pos = go (groups-read k (n / 128) s (at + 1)
         let z : eqb (n / 128) 0 ≡ false = ne-eqb (n / 128) 0 (omega arith) in
         let v : n % 128 + 128 - 128 + n / 128 * 128 ≡ n = omega arith in
         let w : at + 1 + length (groupsOf k (n / 128)) ≡ at + suc (length (groupsOf k (n / 128))) = omega arith in
-        rw (t, lt-leb (length s) at (f .inside), f .byte, le-ltb (n % 128 + 128) 128 (omega arith), ih (omega arith) (f .behind) (more k h big), z, v, w)
-      where
-        more : (j : ℕ) → n < 128 ^ suc j → 128 ≤ n → 0 < j
-        more zero l b = absurd (omega arith)
-        more (suc j) l b = omega arith
+        rw (t, lt-leb (length s) at (f .inside), f .byte, le-ltb (n % 128 + 128) 128 (omega arith), ih (omega arith) (f .behind) (further-one k n h big), z, v, w)
 
 module _ (n : ℕ) (s : List ℕ) (at : ℕ) (rest : List ℕ) (here : drop at s ≡ numberBytes n ++ rest) where
   pub read-plain : n ≤ anyNumber → plainAt s at ≡ value n (at + length (numberBytes n))
-  unfolding plainAt numberBytes
-  read-plain h = groups-read (suc further) n s at rest (omega arith) here (omega arith)
+  unfolding plainAt
+  read-plain h =
+      let e = number-groups n (omega arith) in
+      rw e (groups-read (suc further) n s at rest (omega arith) (rw e at here) (omega arith))
 
   pub read-number : (m : ℕ) → m ≤ anyNumber → n ≤ m → numberAt s m at ≡ value n (at + length (numberBytes n))
   unfolding numberAt

@@ -43,6 +43,6 @@ abbrev pub groupsOf : ℕ → ℕ → List ℕ
 groupsOf zero n = []
 groupsOf (suc more) n = cond (ltb n 128) (n ∷ []) ((n % 128 + 128) ∷ groupsOf more (n / 128))
 
--- a number as it is written
+-- a number as it is written: ten groups hold any number of 64 bits, and how many a reader takes is no matter of the writer's
 unfoldable pub numberBytes : ℕ → List ℕ
-numberBytes n = groupsOf (suc further) n
+numberBytes n = groupsOf 10 n
