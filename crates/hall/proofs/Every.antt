@@ -1,6 +1,6 @@
 -- Laws of the tests over the numbers below a bound.
 use mathlib.Core.Path.{_≡_, refl}
-use mathlib.Core.Bool.{Bool, true, false, and-false}
+use mathlib.Core.Bool.{Bool, true, false, _&&_, and-false}
 use mathlib.Core.Logic.{⊎-elim}
 use Prim.Native.Nat.{ℕ, zero, suc, _+_, _-_, _<_}
 use native.Mathlib.Nat.{eq-or-lt-of-le, le-of-suc-le-suc}
@@ -16,6 +16,12 @@ every-none test = refl
 pub every-more : (test : ℕ → Bool) (n : ℕ) → every test n ≡ true → test n ≡ true → every test (n + 1) ≡ true
 unfolding every
 every-more test n e h = rw add-one (simp (e, h))
+
+-- the tests so far, and one more
+pub every-next : (test : ℕ → Bool) (n m : ℕ) {sofar one : Bool} → m ≡ n + 1 → sofar ≡ every test n → test n ≡ one
+    → (sofar && one) ≡ every test m
+unfolding every
+every-next test n m q e h = rw (q, add-one, e, ← h)
 
 -- a test that fails below the bound fails the whole
 pub every-not : (test : ℕ → Bool) (n k : ℕ) → k < n → test k ≡ false → every test n ≡ false

@@ -7,7 +7,7 @@ use native.Mathlib.Omega.{arith}
 use lib.Dec.{ltb}
 use lib.ListN.{getD}
 use borrow.Author.Tests.{lt-ltb, le-ltb, ltb-true}
-use Rattle.states.specs.Parts.{entrySound}
+use Rattle.states.specs.Parts.{entrySound, openIn, stateSound}
 use Rattle.states.specs.State.{freeTask, phase0, isLive}
 use Rattle.hall.specs.Table.{stateAt, openAt, memberAt, phaseAt}
 use Rattle.states.specs.declared.state.State.the-variants.{Free}
@@ -65,12 +65,21 @@ module _ (t : Table) where
   unfolding openAt
   open-below p e = ltb-true p 16 (and-left (ltb p 16) (getD (t .opened) p false) e)
 
-  -- the test of the entry that stands at a place
+  -- the tests of an entry at its place, and of a state, as the code reads them
   abbrev pub entryTest : ℕ → Bool
   entryTest i = entrySound (memberAt t (i / 16) (i % 16)) (stateAt t (i / 16)) (openAt t (i % 16)) (phaseAt t (i / 16) (i % 16))
 
-  pub entry-test : (i : ℕ) → i < 512 → entryTest i
-      ≡ entrySound (getD (t .members) i false) (getD (t .tasks) (i / 16) freeTask .state) (getD (t .opened) (i % 16) false)
-      (getD (t .phases) i phase0 .0)
-  entry-test i h =
-      cc (member-of i h, phase-of i h, state-in (i / 16) (omega arith), open-in (i % 16) (omega arith))
+  pub entry-read : (k p : ℕ) → k < 32 → p < 16 → entryTest (k * 16 + p)
+      ≡ entrySound (getD (t .members) (k * 16 + p) false) (getD (t .tasks) k freeTask .state) (getD (t .opened) p false)
+      (getD (t .phases) (k * 16 + p) phase0 .0)
+  entry-read k p h g =
+      let task : (k * 16 + p) / 16 ≡ k = omega arith in
+      let phaser : (k * 16 + p) % 16 ≡ p = omega arith in
+      rw (task, phaser) (cc (member-in k p h g, phase-in k p h g, state-in k h, open-in p g))
+
+  abbrev pub stateTest : ℕ → Bool
+  stateTest k = stateSound (openAt t) (stateAt t k)
+
+  pub state-read : (k : ℕ) → k < 32 → stateTest k ≡ stateSound (openIn (t .opened)) (getD (t .tasks) k freeTask .state)
+  unfolding openAt
+  state-read k h = ap (stateSound (openIn (t .opened))) (state-in k h)
