@@ -1,8 +1,7 @@
 -- Where a table's arrays hold what it says: the place of an entry is task times sixteen plus phaser.
-use mathlib.Core.Path.{_≡_, refl, ap, sym, _∙_}
+use mathlib.Core.Path.{_≡_, refl, ap, sym}
 use mathlib.Core.Bool.{Bool, true, false, cond, and-false, true≢false}
 use Prim.Native.Nat.{ℕ, _+_, _*_, _/_, _%_, _<_, _≤_}
-use native.Mathlib.Nat.{div-add-mod'}
 use native.Mathlib.Omega.{arith}
 use lib.Dec.{ltb}
 use lib.ListN.{getD}
@@ -42,15 +41,6 @@ module _ (t : Table) where
   pub phase-in : (k p : ℕ) → k < 32 → p < 16 → phaseAt t k p ≡ getD (t .phases) (k * 16 + p) phase0 .0
   unfolding phaseAt
   phase-in k p h g = simp (lt-ltb k 32 h, lt-ltb p 16 g)
-
-  -- the other way: the entry that stands at a place
-  pub member-of : (i : ℕ) → i < 512 → memberAt t (i / 16) (i % 16) ≡ getD (t .members) i false
-  member-of i h =
-      member-in (i / 16) (i % 16) (omega arith) (omega arith) ∙ ap (λ (j : ℕ). getD (t .members) j false) (div-add-mod' i 16)
-
-  pub phase-of : (i : ℕ) → i < 512 → phaseAt t (i / 16) (i % 16) ≡ getD (t .phases) i phase0 .0
-  phase-of i h =
-      phase-in (i / 16) (i % 16) (omega arith) (omega arith) ∙ ap (λ (j : ℕ). getD (t .phases) j phase0 .0) (div-add-mod' i 16)
 
   -- a task that is live, a phaser that is open, has a number in range
   pub live-below : (k : ℕ) → isLive (stateAt t k) ≡ true → k < 32

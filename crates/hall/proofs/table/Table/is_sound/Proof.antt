@@ -1,6 +1,5 @@
 -- The tests of all entries before this one, and of all states before this one, each as one.
-use mathlib.Core.Path.{_≡_, sym, _∙_, ap}
-use mathlib.Core.Bool.{true, _&&_}
+use mathlib.Core.Path.{_≡_, sym, _∙_}
 use Prim.Native.Nat.{_+_, _*_, _≤_, _-_}
 use native.Mathlib.Omega.{arith}
 use Rattle.hall.specs.Every.{every}
