@@ -101,6 +101,10 @@ noKind = 42
 abbrev pub notSound : ℕ
 notSound = 44
 
+-- document 02, M-100: 43 if the buffer is shorter than the sheet
+abbrev pub shortBuffer : ℕ
+shortBuffer = 43
+
 -- n is one of the list
 abbrev pub among : ℕ → List ℕ → Bool
 among n [] = false

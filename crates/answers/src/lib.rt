@@ -70,3 +70,6 @@ pub const NO_ROUTE: u32 = 41;
 pub const NO_KIND: u32 = 42;
 
 pub const NOT_SOUND: u32 = 44;
+
+// document 02, M-100: buffer shorter than the sheet
+pub const SHORT_BUFFER: u32 = 43;

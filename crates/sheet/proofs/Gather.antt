@@ -21,7 +21,7 @@ count-le f (suc n) = go (f n) (count-le f n)
 
 -- lists of the same
 module _ (f f' : ℕ → Bool) where
-  count-same : (n : ℕ) → ((i : ℕ) → i < n → f i ≡ f' i) → count f n ≡ count f' n
+  pub count-same : (n : ℕ) → ((i : ℕ) → i < n → f i ≡ f' i) → count f n ≡ count f' n
   count-same zero e = refl
   count-same (suc n) e = rw (e n (omega arith), count-same n (λ i h. e i (omega arith)))
 

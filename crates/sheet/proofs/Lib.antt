@@ -5,7 +5,7 @@ mod Steps
 pub mod Same
 pub mod Numbers
 mod Tables
-mod Gather
+pub mod Gather
 pub mod Accepted
 pub mod Written
 pub mod Settled

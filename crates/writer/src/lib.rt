@@ -1,0 +1,6 @@
+// The hall sheet, written.
+mod counts;
+mod entry;
+mod head;
+mod number;
+pub mod writer;
