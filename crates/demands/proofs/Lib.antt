@@ -9,4 +9,5 @@ pub mod Moves
 pub mod ByRoute
 pub mod Verdicts
 pub mod OfSheets
+pub mod OfTables
 pub mod OneAnswers

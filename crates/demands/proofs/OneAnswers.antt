@@ -16,8 +16,10 @@ use Rattle.text.specs.Text.{textWith}
 use Rattle.text.specs.Verdict.{verdictText}
 use Rattle.sheet.specs.Reader.{Sheet}
 use Rattle.sheet.proofs.Theorems.{one-number}
+use Rattle.writer.proofs.Theorems.{written-one}
 use Rattle.mollavisce.proofs.One.{sheet-judged-one, entered-one}
 use Rattle.demands.specs.OneAnswer.{One, OneLent, OneAnswer}
+use Rattle.demands.proofs.OfTables.{rewritten-one}
 use Rattle.demands.proofs.calls.call.Reads as own·call
 use Rattle.demands.proofs.judging.judge.Reads as own·judge
 use Rattle.demands.proofs.judging.verdicts.Reads as own·verdicts
@@ -26,6 +28,8 @@ use Rattle.demands.proofs.sheets.read.Reads as own·read
 use Rattle.demands.proofs.sheets.verdict_of.Reads as own·verdict-of
 use Rattle.demands.proofs.sheets.sheet_verdict.Reads as own·sheet-verdict
 use Rattle.demands.proofs.sheets.text_of.Reads as own·text-of
+use Rattle.demands.proofs.writing.write.Reads as own·write
+use Rattle.demands.proofs.writing.rewrite.Reads as own·rewrite
 
 -- two that equal a third
 both : {A : Type 0} {x y z : A} → x ≡ z → y ≡ z → x ≡ y
@@ -102,6 +106,7 @@ one-answer = record {
     λ κ a r r′ e e′ p q. one-number r r′ (both p q),
     λ κ a r r′ e e′ p q. (ap (λ (s : Sheet). s .table) (both p q), ap (λ (s : Sheet). s .answer) (both p q)),
   );
+  writer = λ κ a r r′ e e′ p q. written-one r r′ (both p q);
   mollavisce = (
     λ κ a r r′ e e′. sheet-judged-one _ (a .1 .0) r r′,
     λ κ a r r′ e e′. entered-one _ (a .1 .0) _ r r′ _ _,
@@ -142,3 +147,9 @@ pub text-of-one : One own·text-of.Learnt
 text-of-one κ a r r′ e e′ p q =
     let same = sheet-judged-one _ 0 (p .verdict) (q .verdict) (p .judged .is) (q .judged .is) in
     both (p .is) (q .is ∙ ap (λ (v : Verdict). textWith (verdictText v)) (sym same))
+
+pub write-one : OneLent (λ κ e. now (e .1 .0)) own·write.Learnt
+write-one κ a r r′ e e′ p q = written-one r r′ (both (p .is) (q .is))
+
+pub rewrite-one : OneLent (λ κ e. now (e .1 .0)) own·rewrite.Learnt
+rewrite-one κ a r r′ e e′ p q = written-one r r′ (rewritten-one _ _ _ _ _ _ _ _ p q)

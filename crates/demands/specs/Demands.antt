@@ -8,7 +8,7 @@ use Prim.Native.Nat.{ℕ, _<_, _≤_}
 use lib.ListN.{length, drop, take}
 use Rattle.sets.specs.Set.{Has, size}
 use Rattle.deadlock.specs.Ring.{RingIn}
-use Rattle.answers.specs.Answers.{done, noKind, notSound, among, noRoute, shortStrip}
+use Rattle.answers.specs.Answers.{done, noKind, notSound, among, noRoute, shortStrip, shortBuffer}
 use Rattle.hall.specs.Answers.{answersOf}
 use Rattle.hall.specs.Rules.{PhaserMap}
 use Rattle.hall.specs.Sound.{Sound}
@@ -27,6 +27,7 @@ use Rattle.sheet.specs.Answers.{sheetAnswers}
 use Rattle.sheet.specs.Figures.{longestSheet, settlingBytes}
 use Rattle.sheet.specs.Reader.{hands, sheetAt}
 use Rattle.sheet.specs.Written.{sheetOf}
+use Rattle.writer.specs.Writer.{wrote, laidOn, writeOf}
 use Rattle.mollavisce.specs.Entry.{entryAnswers, VerdictOf, Entered}
 use Rattle.mollavisce.specs.Strip.{verdictIn}
 use Rattle.demands.specs.PhaserDeadlocks.{TaskMap, StandsFor, DeadlockedWith}
@@ -87,6 +88,30 @@ pub record SheetRead (sheet : List ℕ) (answer : ℕ) (t : Table) : Type 0 wher
   -- "The longest sheet has 2,291 bytes. So reading 2,292 settles any input." (document 01)
   pub longest : answer ≡ done → length sheet ≤ longestSheet
   pub settled : hands answer t ≡ sheetAt (take settlingBytes sheet)
+
+-- a table and a buffer, and the writer's answer, its value and the buffer after it (document 02, M-100)
+pub record TableWritten (t : Table) (before : List ℕ) (answer value : ℕ) (after : List ℕ) : Type 0 where
+  pub is : wrote answer value after ≡ writeOf t before
+  -- "its own number": "44 as in 01, then 43 if the buffer is shorter than the sheet"
+  pub not-sound : (answer ≡ notSound) ↔ (Sound t → ⊥)
+  pub short : (answer ≡ shortBuffer) ↔ (Sound t × (length before < length (sheetOf t)))
+  pub accepted : (answer ≡ done) ↔ (Sound t × (length (sheetOf t) ≤ length before))
+  -- "and a value of 0 .. and not one byte .. moves"
+  pub refusal : (answer ≡ done → ⊥) → (value ≡ 0) × (after ≡ before)
+  -- "any sound table as a hall sheet ..; the value is its length", "Bytes after the sheet stay as they were."
+  pub sheet : answer ≡ done → (value ≡ length (sheetOf t)) × (take value after ≡ sheetOf t)
+  pub rest : drop value after ≡ drop value before
+  -- "Reading a written sheet gives the same table"
+  pub read-back : answer ≡ done → sheetAt (take value after) ≡ hands done t
+  -- "The longest sheet has 2,291 bytes" (document 01): so many are enough for any
+  pub enough : longestSheet ≤ length before → answer ≡ shortBuffer → ⊥
+
+-- a sheet that is read and its table written: "writing a table read from an accepted sheet gives the same bytes"
+pub record SheetRewritten (sheet before : List ℕ) (answer value : ℕ) (after : List ℕ) : Type 0 where
+  pub fault : (sheetAt sheet .answer ≡ done → ⊥) → wrote answer value after ≡ wrote (sheetAt sheet .answer) 0 before
+  pub short : sheetAt sheet .answer ≡ done → length before < length sheet → wrote answer value after ≡ wrote shortBuffer 0 before
+  pub same : sheetAt sheet .answer ≡ done → length sheet ≤ length before
+      → wrote answer value after ≡ wrote done (length sheet) (laidOn sheet before)
 
 -- ---- 2. "A task is named stuck exactly when it belongs to some totally deadlocked set, as source document 000 defines that for phasers."
 -- a table, and a verdict on it with answer 0

@@ -60,6 +60,7 @@ use Rattle.sheet.proofs.number.plain.Reads as sheet·plain
 use Rattle.sheet.proofs.number.read.Reads as sheet·number
 use Rattle.sheet.proofs.number.rising.Reads as sheet·rising
 use Rattle.sheet.proofs.reader.read.Reads as sheet·read
+use Rattle.writer.proofs.writer.write.Reads as writer·write
 use Rattle.mollavisce.proofs.entry.verdict_of.Reads as mollavisce·verdict-of
 use Rattle.mollavisce.proofs.entry.sheet_verdict.Reads as mollavisce·sheet-verdict
 
@@ -90,4 +91,5 @@ pub record OneAnswer : Type 1 where
   pub judge : One judge·task-route.Learnt × One judge·event-route.Learnt × One judge·judge.Learnt × One judge·nobody.Learnt
   pub text : One text·text-of.Learnt
   pub sheet : One sheet·plain.Learnt × One sheet·number.Learnt × One sheet·rising.Learnt × OneLent (λ κ e. now (e .1 .0)) sheet·read.Learnt
+  pub writer : OneLent (λ κ e. now (e .1 .0)) writer·write.Learnt
   pub mollavisce : One mollavisce·verdict-of.Learnt × OneLent (λ κ e. now (e .1 .1 .0)) mollavisce·sheet-verdict.Learnt

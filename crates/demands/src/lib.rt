@@ -3,3 +3,4 @@
 pub mod calls;
 pub mod judging;
 pub mod sheets;
+pub mod writing;
