@@ -1,12 +1,14 @@
 #!/usr/bin/env python3
-"""Document 01 in plain Python: a model that shares nothing with the library, for outputs to compare with. `host/run` runs all of it.
+"""Document 01, and document 02's writer, in plain Python: a model that shares nothing with the library, for outputs to compare with.
+`host/run` runs all of it.
 
-  model.py test                  the bench cases, and the judge against every set of tasks
+  model.py test                  the bench cases, the judge against every set of tasks, the writer against the reader
   model.py odd-numbers           calls, with answers and values: what `oddnumbers` must print
   model.py sheets                damaged sheets, with verdicts: what `damaged_sheets` must print
+  model.py written               tables, written into buffers of several lengths: what `written_sheets` must print
   model.py vectors SEED COUNT    random and damaged sheets: sheet, answer and strip, in hex (for `check -`)
 
-Sections stand in document 01's order, and quoted words are its own.
+Sections stand in document 01's order, with the writer after the sheet, and quoted words are the documents' own.
 """
 import itertools
 import random
@@ -331,6 +333,21 @@ def told(strip):
     return mask, [k for k in range(TASKS) if mask >> k & 1], list(strip[6 : 6 + strip[5]])
 
 
+# ---- Document 02, M-100
+
+
+def write(t, buffer):
+    """'Write any sound table as a hall sheet into a lent buffer; the value is its length.' Answer, value and the buffer afterwards.
+    'Refusals: 44 as in 01, then 43 if the buffer is shorter than the sheet.' 'Bytes after the sheet stay as they were.'"""
+    try:
+        ask(sound(t), 44)
+        sheet = sheet_of(t)
+        ask(len(sheet) <= len(buffer), 43)
+        return 0, len(sheet), sheet + buffer[len(sheet) :]
+    except Refused as refusal:
+        return refusal.args[0], 0, buffer
+
+
 # ---- Bench cases
 
 
@@ -449,6 +466,99 @@ def sheets():
                 yield (number, damage, place, answer) if answer else (number, damage, place, 0, mask, len(named), len(ring), *ring)
 
 
+# ---- The written run: see `written` for the tables, the buffers and the lines
+
+EDGES = [0, 1, 127, 128, 16383, 16384, 65534, 65535]  # phases about the edges of one, two and three groups
+LONGEST = table(range(16), {k: (k % 16, 65535) for k in range(32)}, {p: {k: 40000 for k in range(32)} for p in range(16)})
+PATTERN = bytes((i * 7 + 1) % 256 for i in range(2300))
+
+
+class Draws:
+    """Numbers from the high byte of a state, since its low bits soon repeat."""
+
+    def __init__(self):
+        self.state = 1
+
+    def below(self, bound):
+        self.state = (self.state * 25173 + 13849) % 65536
+        return self.state // 256 % bound
+
+    def phase(self):
+        groups = self.below(4)
+        if groups == 0:
+            return EDGES[self.below(8)]
+        if groups == 1:
+            return self.below(128)
+        if groups == 2:
+            return 128 + self.below(254) * 64 + self.below(64)
+        return 16384 + self.below(192) * 256 + self.below(256)
+
+
+def drawn_table(draws, absent, shut):
+    """A sound table in which task `absent` is free and phaser `shut` not open. Few tasks live, but for one table in 16."""
+    t = Table()
+    opened, joined = draws.below(256), draws.below(256)
+    live = draws.below(256 if draws.below(16) == 0 else 40)
+    for p in range(PHASERS):
+        t.opened[p] = draws.below(256) < opened and p != shut
+    for k in range(TASKS):
+        if draws.below(256) < live and k != absent:
+            awaited, phase, runs = draws.below(16), draws.phase(), draws.below(3) == 0
+            t.state[k] = RUNNING if runs or not t.opened[awaited] else (awaited, phase)
+            for p in range(PHASERS):
+                if draws.below(256) < joined and t.opened[p]:
+                    t.member[k][p], t.phase[k][p] = True, draws.phase()
+    return t
+
+
+def with_fault(t, fault, absent, shut):
+    """A drawn table with one fault, at the task and the phaser that it leaves out."""
+    state, opened, member, phase = [
+        (RUNNING, False, True, 0),  # a member of a phaser that is not open
+        (FREE, True, True, 0),  # a member that is no live task
+        (FREE, False, False, 1),  # a non-member that keeps a phase, free
+        (RUNNING, True, False, 1),  # and live
+        (RUNNING, True, True, 65536),  # a kept phase too large
+        ((shut, 65536), True, False, 0),  # an awaited phase too large
+        ((shut, 1), False, False, 0),  # an awaited phaser that is not open
+        ((16, 1), True, False, 0),  # one that there is not
+        ((2**32 + shut, 1), True, False, 0),  # one that is an open one in its low 32 bits
+    ][fault]
+    t.state[absent], t.opened[shut], t.member[absent][shut], t.phase[absent][shut] = state, opened, member, phase
+    return t
+
+
+def written_tables():
+    """Numbered from 1: the bench cases, the table with the longest sheet, and 200 drawn ones, of which every eighth gets a fault."""
+    draws = Draws()
+    yield from enumerate([t for t, _, _ in BENCH.values()] + [LONGEST], 1)
+    for number in range(11, 211):
+        absent, shut = draws.below(32), draws.below(16)
+        t = drawn_table(draws, absent, shut)
+        yield number, t if number % 8 else with_fault(t, number // 8 % 9, absent, shut)
+
+
+def written_line(number, t, length):
+    """A write into the first so many bytes of PATTERN: number, length, answer, value, and a sum over all of them."""
+    answer, value, after = write(t, PATTERN[:length])
+    total = 0
+    for byte in after + PATTERN[length:]:
+        total = (total * 31 + byte) % 65521
+    return number, length, answer, value, total
+
+
+def written():
+    """For each table a line of a write into all 2,300 bytes. After answer 0 a line with the sheet and the four bytes after it, in hex (but
+    for the longest), and lines of writes into one byte less than the sheet, as many, and one more. After 44 one of a write into none."""
+    for number, t in written_tables():
+        yield written_line(number, t, len(PATTERN))
+        _, value, after = write(t, PATTERN)
+        if value and t is not LONGEST:
+            yield after[:value].hex(), after[value : value + 4].hex()
+        for length in (value - 1, value, value + 1) if value else (0,):
+            yield written_line(number, t, length)
+
+
 # ---- Random sheets
 
 
@@ -501,7 +611,7 @@ def vectors(seed, count):
         yield data.hex() or "-", answer, strip.hex()
 
 
-# ---- The model against document 01's own figures, and against every set of tasks
+# ---- The model against the documents' own figures, against every set of tasks, and its writer against its reader
 
 
 def test():
@@ -543,13 +653,36 @@ def test():
         answer, value, after = call(t, kind, *numbers)
         assert sound(after) and (answer < 10 or value == 0 and vars(after) == vars(t))
     print(f"model: bench as document 01 states it; 3000 random tables, {stuck} with stuck tasks, all by sets and both routes alike")
+    test_write(rand)
+
+
+def test_write(rand):
+    """What is written is read back, and what was read is written back."""
+    tables = [t for t, _, _ in BENCH.values()] + [LONGEST] + [random_table(rand) for _ in range(300)]
+    accepted = 0
+    for t in tables:
+        answer, value, after = write(t, PATTERN)
+        sheet = after[:value]
+        assert answer == 0 and after[value:] == PATTERN[value:] and vars(Sheet(sheet).table()) == vars(t)
+        assert write(t, PATTERN[:value]) == (0, value, sheet) and write(t, PATTERN[: value - 1]) == (43, 0, PATTERN[: value - 1])
+        for data in [damaged(rand, sheet) for _ in range(20)]:
+            try:
+                assert write(Sheet(data).table(), data) == (0, len(data), data)
+                accepted += data != sheet
+            except Refused:
+                pass
+    for fault in range(9):
+        for t in [with_fault(Table(), fault, 31, 15), with_fault(drawn_table(Draws(), 7, 3), fault, 7, 3)]:
+            assert not sound(t) and write(t, PATTERN) == (44, 0, PATTERN) and write(t, b"") == (44, 0, b"")
+    assert write(P4, PATTERN)[:2] == (0, 23) and write(LONGEST, PATTERN)[:2] == (0, 2291) and write(Table(), b"") == (43, 0, b"")
+    print(f"model: {len(tables)} tables written and read back, {accepted} damaged sheets that are accepted still, read and written back")
 
 
 def main(words):
     if words == ["test"]:
         test()
-    elif words in (["odd-numbers"], ["sheets"]):
-        for line in {"odd-numbers": odd_numbers, "sheets": sheets}[words[0]]():
+    elif words in (["odd-numbers"], ["sheets"], ["written"]):
+        for line in {"odd-numbers": odd_numbers, "sheets": sheets, "written": written}[words[0]]():
             print(*line)
     elif len(words) == 3 and words[0] == "vectors":
         for line in vectors(int(words[1]), int(words[2])):
