@@ -6,6 +6,7 @@ namespace reference {
 namespace {
 
 constexpr std::uint32_t largest_phase = 65535, unlimited = UINT32_MAX;
+constexpr std::size_t longest_sheet = 2291;
 
 struct Reader {
     const std::uint8_t *at, *end;
@@ -101,16 +102,8 @@ std::uint8_t *put(std::uint8_t *at, std::uint32_t value) {
     return at;
 }
 
-std::uint32_t lowest(std::uint32_t set) { return static_cast<std::uint32_t>(__builtin_ctz(set)); }
-
-} // namespace
-
-std::uint32_t read(const std::uint8_t *sheet, std::size_t length, Table &table) {
-    Reader reader{sheet, sheet + length};
-    return reader.sheet(table) ? 0 : reader.refusal;
-}
-
-std::size_t write(const Table &table, std::uint8_t *sheet) {
+// The sheet of a sound table; its length.
+std::size_t put_sheet(const Table &table, std::uint8_t *sheet) {
     std::uint32_t phasers = 0, tasks = 0;
     for (bool open : table.open)
         phasers += open;
@@ -137,6 +130,45 @@ std::size_t write(const Table &table, std::uint8_t *sheet) {
                 at = put(put(at, p), table.phase[k][p]);
     }
     return static_cast<std::size_t>(at - sheet);
+}
+
+std::uint32_t lowest(std::uint32_t set) { return static_cast<std::uint32_t>(__builtin_ctz(set)); }
+
+} // namespace
+
+std::uint32_t read(const std::uint8_t *sheet, std::size_t length, Table &table) {
+    Reader reader{sheet, sheet + length};
+    return reader.sheet(table) ? 0 : reader.refusal;
+}
+
+bool sound(const Table &table) {
+    for (std::uint32_t k = 0; k < 32; ++k) {
+        const Task &task = table.task[k];
+        if (task.state == State::blocked &&
+            (task.phaser > 15 || !table.open[task.phaser] || task.phase > largest_phase))
+            return false;
+        for (std::uint32_t p = 0; p < 16; ++p) {
+            if (!table.member[k][p] && table.phase[k][p] != 0)
+                return false;
+            if (table.member[k][p] &&
+                (task.state == State::free || !table.open[p] || table.phase[k][p] > largest_phase))
+                return false;
+        }
+    }
+    return true;
+}
+
+// Into an array of its own first, since only its end tells whether the sheet fits. Never inlined: a loop of writes of
+// one table might else test it once for all of them.
+[[gnu::noinline]] Written write(const Table &table, std::uint8_t *buffer, std::size_t length) {
+    if (!sound(table))
+        return {44, 0};
+    std::uint8_t sheet[longest_sheet];
+    const std::size_t written = put_sheet(table, sheet);
+    if (length < written)
+        return {43, 0};
+    std::memcpy(buffer, sheet, written);
+    return {0, written};
 }
 
 Verdict judge(const Table &table) {
@@ -196,6 +228,17 @@ std::uint32_t verdict(const std::uint8_t *sheet, std::size_t length, std::uint64
     std::memset(strip + 6, 255, 32);
     std::memcpy(strip + 6, found.ring, found.ring_length);
     return 0;
+}
+
+std::uint32_t written_times(const std::uint8_t *sheet, std::size_t length, std::uint64_t times, std::uint8_t *buffer,
+                            std::size_t buffer_length) {
+    Table table;
+    if (const std::uint32_t refusal = read(sheet, length, table))
+        return refusal;
+    Written written{0, 0};
+    for (; times > 0; --times)
+        written = write(table, buffer, buffer_length);
+    return written.answer;
 }
 
 } // namespace reference

@@ -1,4 +1,5 @@
-// Document 01 read a second time, in plain C++ that shares nothing with the library: to compare answers and times with.
+// Document 01, and document 02's writer, read a second time, in plain C++ that shares nothing with the library: to
+// compare answers and times with.
 #pragma once
 
 #include <cstddef>
@@ -30,8 +31,17 @@ struct Verdict {
 // Reads into a fresh table. 0, or a refusal from 30 to 36, after which the table is not to be used.
 std::uint32_t read(const std::uint8_t *sheet, std::size_t length, Table &table);
 
-// The written form of a table, at most 2,291 bytes; the value is its length.
-std::size_t write(const Table &table, std::uint8_t *sheet);
+// Document 01's "A table is sound when ..": what no table that was read can break, and one made by hand can.
+bool sound(const Table &table);
+
+struct Written {
+    std::uint32_t answer;
+    std::size_t value;
+};
+
+// A sound table's sheet at the start of a buffer, and its length. 44 if the table is not sound, then 43 if the buffer
+// is shorter than the sheet; either has the value 0 and moves no byte.
+Written write(const Table &table, std::uint8_t *buffer, std::size_t length);
 
 // The named tasks by the definition, and the ring.
 Verdict judge(const Table &table);
@@ -39,5 +49,9 @@ Verdict judge(const Table &table);
 // What sheet_verdict should do.
 std::uint32_t verdict(const std::uint8_t *sheet, std::size_t length, std::uint64_t route, std::uint8_t *strip,
                       std::size_t strip_length);
+
+// Writes a sheet's table so many times into one buffer: the last write's answer, 0 of none, or the sheet's refusal.
+std::uint32_t written_times(const std::uint8_t *sheet, std::size_t length, std::uint64_t times, std::uint8_t *buffer,
+                            std::size_t buffer_length);
 
 } // namespace reference
