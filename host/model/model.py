@@ -531,8 +531,10 @@ def with_fault(t, fault, absent, shut):
 def written_tables():
     """Numbered from 1: the bench cases, the table with the longest sheet, and 200 drawn ones, of which every eighth gets a fault."""
     draws = Draws()
-    yield from enumerate([t for t, _, _ in BENCH.values()] + [LONGEST], 1)
-    for number in range(11, 211):
+    p10 = [table([0], {}, {0: {0: phase}}, [0]) for phase in (65534, 65535)]
+    p11 = table([], {}, {}, range(TASKS))
+    yield from enumerate([t for t, _, _ in BENCH.values()] + p10 + [p11, LONGEST], 1)
+    for number in range(14, 214):
         absent, shut = draws.below(32), draws.below(16)
         t = drawn_table(draws, absent, shut)
         yield number, t if number % 8 else with_fault(t, number // 8 % 9, absent, shut)

@@ -1,4 +1,4 @@
-// Document 01's 'Bench cases' P1 to P9.
+// The tables of document 01's 'Bench cases'.
 use crate::lines::table_lines;
 use hall::table::Table;
 use states::state::Event;
@@ -88,6 +88,21 @@ fn p9() -> Table {
     joins(joins(first, 2, 0, 0), 1, 1, 0)
 }
 
+// P10: task 0 runs, at a phase on phaser 0.
+fn p10(phase: u32) -> Table {
+    joins(runs(opens(Table::fresh(), 0), 0), 0, 0, phase)
+}
+
+// P11: no number is free.
+fn p11() -> Table {
+    let mut table = Table::fresh();
+    let running = Task {
+        state: State::Running,
+    };
+    table.tasks = [running; 32];
+    table
+}
+
 pub(crate) fn lines() {
     table_lines(1, Table::fresh(), true);
     table_lines(2, joins(one(1), 0, 0, 0), true);
@@ -98,4 +113,7 @@ pub(crate) fn lines() {
     table_lines(7, joins(joins(runs(p7(), 2), 2, 0, 0), 2, 1, 0), true);
     table_lines(8, p8(), true);
     table_lines(9, p9(), true);
+    table_lines(10, p10(65_534), true);
+    table_lines(11, p10(65_535), true);
+    table_lines(12, p11(), true);
 }

@@ -85,8 +85,8 @@ fn drawn(state: &mut u64, number: u64) -> Table {
 
 pub(crate) fn lines() {
     let mut state: u64 = 1;
-    let mut number: u64 = 11;
-    while number < 211 {
+    let mut number: u64 = 14;
+    while number < 214 {
         table_lines(number, drawn(&mut state, number), true);
         number += 1;
     }

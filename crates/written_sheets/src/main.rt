@@ -11,6 +11,6 @@ mod longest;
 
 fn main() {
     bench::lines();
-    lines::table_lines(10, longest::table(), false);
+    lines::table_lines(13, longest::table(), false);
     drawn::lines();
 }

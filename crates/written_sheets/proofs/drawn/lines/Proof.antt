@@ -5,10 +5,10 @@ use Rattle.written_sheets.proofs.drawn.lines.Statement.{statement}
 use Rattle.written_sheets.proofs.drawn.lines.Tie as tie
 
 abbrev Inv-loop : tie.InvT-loop
-Inv-loop state₀ number₀ state number = number ≤ 211
+Inv-loop state₀ number₀ state number = number ≤ 214
 
 abbrev μ-loop : tie.MeasureT-loop
-μ-loop state₀ number₀ state number = 211 - number
+μ-loop state₀ number₀ state number = 214 - number
 
 loop-holds : tie.Need-loop-holds Inv-loop μ-loop
 loop-holds c = search needs
