@@ -153,7 +153,8 @@ groups-read (suc k) n s at rest h e pos = go (groups-read k (n / 128) s (at + 1)
         let z : eqb (n / 128) 0 ≡ false = ne-eqb (n / 128) 0 (omega arith) in
         let v : n % 128 + 128 - 128 + n / 128 * 128 ≡ n = omega arith in
         let w : at + 1 + length (groupsOf k (n / 128)) ≡ at + suc (length (groupsOf k (n / 128))) = omega arith in
-        rw (t, lt-leb (length s) at (f .inside), f .byte, le-ltb (n % 128 + 128) 128 (omega arith), ih (omega arith) (f .behind) (further-one k n h big), z, v, w)
+        let later = ih (omega arith) (f .behind) (further-one k n h big) in
+        rw (t, lt-leb (length s) at (f .inside), f .byte, le-ltb (n % 128 + 128) 128 (omega arith), later, z, v, w)
 
 module _ (n : ℕ) (s : List ℕ) (at : ℕ) (rest : List ℕ) (here : drop at s ≡ numberBytes n ++ rest) where
   pub read-plain : n ≤ anyNumber → plainAt s at ≡ value n (at + length (numberBytes n))

@@ -1,15 +1,20 @@
 -- Bytes laid from a place on: one part after the other, with no room, and with room for all.
 use mathlib.Core.Path.{_≡_, refl, sym, ap, _∙_}
-use mathlib.Core.Bool.{Bool, true, false, cond}
+use mathlib.Core.Bool.{Bool, true, false, _||_, cond}
 use mathlib.Core.List.{List, [], _∷_, _++_}
-use Prim.Native.Nat.{ℕ, suc, _+_, _≤_}
+use Prim.Native.Nat.{ℕ, suc, _+_, _≤_, _<_}
 use native.Mathlib.Omega.{arith}
 use lib.Dec.{ltb}
 use lib.ListN.{length, set, length-set, length-append}
 use lib.Seq.{sets, sets-eq, set-out}
-use borrow.Author.Tests.{le-ltb, ltb-false}
+use borrow.Author.Tests.{lt-ltb, le-ltb, ltb-false}
 use Rattle.writer.specs.Parts.{stored, laidFrom, Laid}
 use Rattle.writer.specs.Writer.{laidOn}
+
+-- where what is near has room, it makes no difference to the test
+pub near-test : (near : Bool) (at room : ℕ) → (near ≡ true → at < room) → (near || ltb at room) ≡ ltb at room
+near-test true at room h = sym (lt-ltb at room (h refl))
+near-test false at room h = refl
 
 -- a byte that is stored moves no end
 pub length-stored : (room : ℕ) (b : List ℕ) (at byte : ℕ) → length (stored room b at byte) ≡ length b

@@ -23,6 +23,13 @@ groups-short (suc k) n = go (ltb n 128) (groups-short k (n / 128))
     go true h = omega arith
     go false h = omega arith
 
+some-group : (k n : ℕ) → 0 < length (groupsOf (suc k) n)
+some-group k n = go (ltb n 128)
+  where
+    go : (b : Bool) → 0 < length (cond b (n ∷ []) ((n % 128 + 128) ∷ groupsOf k (n / 128)))
+    go true = omega arith
+    go false = omega arith
+
 pub number-short : (n : ℕ) → length (numberBytes n) ≤ 10
 unfolding numberBytes
 number-short n = groups-short 10 n
@@ -57,8 +64,8 @@ module _ {room : ℕ} {before : List ℕ} {at number : ℕ} {buffer : List ℕ} 
   two-groups : (k : ℕ) → 128 ≤ left → groupsOf (suc k) left ≡ (left % 128 + 128) ∷ groupsOf k (left / 128)
   two-groups k h = rw (le-ltb left 128 h)
 
-  pub putting-near : 128 ≤ left → next < at + 10
-  putting-near h = omega (arith, g .place, ap length (two-groups (g .more) h), number-short number)
+  pub putting-near : next < at + 10
+  putting-near = omega (arith, g .place, some-group (g .more) left, number-short number)
 
   pub putting-turn : (byte : ℕ) → byte ≡ left % 128 + 128 → 128 ≤ left
       → Putting room before at number (stored room buffer next byte) (next + 1) (left / 128)

@@ -1,15 +1,19 @@
 -- What is left of the number, laid from here on, gives what the whole number gives.
 use native.Mathlib.Omega.{arith}
+use borrow.Author.Tests.{leb-true}
 use Rattle.writer.proofs.Putting.{Putting, putting-start, putting-near, putting-turn, putting-done, number-short}
 use borrow.Author.Needs.{needs}
 use Rattle.writer.proofs.number.put.Statement.{statement}
 use Rattle.writer.proofs.number.put.Tie as tie
 
 abbrev Inv-loop : tie.InvT-loop
-Inv-loop buffer₀ room at number next₀ left₀ buffer next left = Putting room buffer₀ at number buffer next left
+Inv-loop buffer₀ room at number near next₀ left₀ buffer next left = Putting room buffer₀ at number buffer next left
 
 abbrev μ-loop : tie.MeasureT-loop
-μ-loop buffer₀ room at number next₀ left₀ buffer next left = left
+μ-loop buffer₀ room at number near next₀ left₀ buffer next left = left
+
+add-near : tie.Need-add-near Inv-loop μ-loop
+add-near c = search needs
 
 loop-holds : tie.Need-loop-holds Inv-loop μ-loop
 loop-holds c = putting-start _ _ _ _ (c .before .fits .number .fits)
@@ -21,12 +25,14 @@ cast-store : tie.Need-cast-store Inv-loop μ-loop
 cast-store c = search needs
 
 store-requires : tie.Need-store-requires Inv-loop μ-loop
-store-requires c κs = search needs
+store-requires c κs =
+    let turn = c .before .before in
+    (search needs, λ e. omega (arith, putting-near (turn .loop .inv), leb-true, e))
 
 add-next : tie.Need-add-next Inv-loop μ-loop
 add-next c =
     let turn = c .before .before .before .before in
-    record { fits = omega (arith, putting-near (turn .before .loop .inv) (omega (arith, turn .loop-test .taken)), turn .before .before .before .pre .1) }
+    record { fits = omega (arith, putting-near (turn .before .loop .inv), turn .before .before .before .pre .1) }
 
 loop-less : tie.Need-loop-less Inv-loop μ-loop
 loop-less c = search needs
@@ -40,7 +46,9 @@ cast-store-2 : tie.Need-cast-store-2 Inv-loop μ-loop
 cast-store-2 c = search needs
 
 store-requires-2 : tie.Need-store-requires-2 Inv-loop μ-loop
-store-requires-2 c κs = search needs
+store-requires-2 c κs =
+    let turn = c .before .before in
+    (search needs, λ e. omega (arith, putting-near (turn .loop .inv), leb-true, e))
 
 add-result : tie.Need-add-result Inv-loop μ-loop
 add-result c =
@@ -62,6 +70,7 @@ put-spec =
     (tie.spec
     Inv-loop
     μ-loop
+    add-near
     loop-holds
     add-store
     cast-store
