@@ -17,6 +17,7 @@ pub count-done : (f : ℕ → Bool) (n m : ℕ) {many : ℕ} → n ≡ m → man
 count-done f n m q e = rw (← q) e
 
 pub gather-next : (f : ℕ → Bool) (g : ℕ → List ℕ) (n : ℕ) → gather f g n ++ ifThere (f n) (g n) ≡ gather f g (n + 1)
+unfolding ifThere
 gather-next f g n = rw (add-one n) (go (f n))
   where
     go : (there : Bool) → gather f g n ++ ifThere there (g n) ≡ cond there (gather f g n ++ g n) (gather f g n)

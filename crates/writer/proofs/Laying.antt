@@ -50,6 +50,10 @@ laid-both {room} {b} {b'} {b''} {at} {m} {n} {p} {q} g h = record {
 laid-room : {room : ℕ} {b b' : List ℕ} {at m : ℕ} {p : List ℕ} → Laid room b at p b' m → room ≤ length b → room ≤ length b'
 laid-room {room} {b} {b'} {at} {m} {p} g h = rw (g .buffer, length-laid room b at p) h
 
+-- the same bytes under another name
+pub laid-same : {room : ℕ} {b b' : List ℕ} {at m : ℕ} {p q : List ℕ} → Laid room b at p b' m → p ≡ q → Laid room b at q b' m
+laid-same g e = rw (← e) g
+
 -- so the next part may be laid, up to some limit
 pub laid-ready : {room : ℕ} {b b' : List ℕ} {at m : ℕ} {p : List ℕ} (limit : ℕ) → Laid room b at p b' m → room ≤ length b
     → at + length p ≤ limit → (room ≤ length b') × (m ≤ limit)

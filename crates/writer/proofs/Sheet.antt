@@ -7,7 +7,7 @@ use native.Mathlib.Omega.{arith}
 use lib.ListN.{length, length-append, getD}
 use Rattle.states.specs.State.{isLive, freeTask, phase0}
 use Rattle.states.specs.declared.state.State.{State}
-use Rattle.hall.specs.Table.{stateAt, openAt, memberAt}
+use Rattle.hall.specs.Table.{stateAt, openAt, memberAt, phaseAt}
 use Rattle.hall.specs.declared.table.Table.{Table}
 use Rattle.hall.proofs.Places.{state-in, open-in, member-in, phase-in}
 use Rattle.sheet.specs.Number.{numberBytes}
@@ -38,6 +38,7 @@ head-short f live =
     (number-short 1) (listed-short f numberBytes 10 number-short 16) (number-short live)
 
 there-short : (there : Bool) (b : List ℕ) {n : ℕ} → length b ≤ n → length (ifThere there b) ≤ n
+unfolding ifThere
 there-short true b h = h
 there-short false b h = omega arith
 
@@ -76,6 +77,7 @@ three-parts a b d e p q = rw (← p, ← q) (append-assoc a (b ++ d) e ∙ ap (�
 entry-row : (f : ℕ → Bool) (g : ℕ → List ℕ) (number state : List ℕ) (n end many : ℕ) → many ≡ count f n → (live : Bool)
     → end ≡ cond live n 0
     → ifThere live (number ++ (state ++ numberBytes many)) ++ gather f g end ≡ ifThere live (number ++ (state ++ listed f g n))
+unfolding ifThere
 entry-row f g number state n end many e true q =
     three-parts number state (numberBytes many) (gather f g end) refl (listed-done f g n end many q e)
 entry-row f g number state n end many e false q = rw q
@@ -90,12 +92,17 @@ module _ (t : Table) where
   pub members-same : (k n : ℕ) → k < 32 → n ≡ count (flagged (t .members) (k * 16)) 16 → n ≡ count (memberAt t k) 16
   members-same k n h e = e ∙ count-same _ _ 16 (λ p l. sym (member-in t k p h l))
 
-  -- a phaser more
-  pub row-next : (k p : ℕ) → k < 32 → p < 16
-      → gather (memberAt t k) (memberBytes t k) p
-      ++ ifThere (getD (t .members) (k * 16 + p) false) (numberBytes p ++ numberBytes (getD (t .phases) (k * 16 + p) phase0 .0))
+  -- a phaser more, its entry looked up at whatever place is that of task and phaser
+  pub member-read : (k p i : ℕ) → i ≡ k * 16 + p → k < 32 → p < 16 → getD (t .members) i false ≡ memberAt t k p
+  member-read k p i q h l = rw q (sym (member-in t k p h l))
+
+  pub phase-read : (k p i : ℕ) → i ≡ k * 16 + p → k < 32 → p < 16 → getD (t .phases) i phase0 .0 ≡ phaseAt t k p
+  phase-read k p i q h l = rw q (sym (phase-in t k p h l))
+
+  pub row-next : (k p : ℕ) (there : Bool) (n : ℕ) → there ≡ memberAt t k p → n ≡ phaseAt t k p
+      → gather (memberAt t k) (memberBytes t k) p ++ ifThere there (numberBytes p ++ numberBytes n)
       ≡ gather (memberAt t k) (memberBytes t k) (p + 1)
-  row-next k p h l = rw (← member-in t k p h l, ← phase-in t k p h l) (gather-next (memberAt t k) (memberBytes t k) p)
+  row-next k p there n e q = rw (e, q) (gather-next (memberAt t k) (memberBytes t k) p)
 
   -- a task more
   pub task-next : (k many end : ℕ) (x : State) → k < 32 → many ≡ count (flagged (t .members) (k * 16)) 16

@@ -38,7 +38,7 @@ abbrev pub liveIn : List Task → ℕ → Bool
 liveIn tasks k = isLive (getD tasks k freeTask .state)
 
 -- those of an entry that is there
-abbrev pub ifThere : Bool → List ℕ → List ℕ
+unfoldable pub ifThere : Bool → List ℕ → List ℕ
 ifThere there bytes = cond there bytes []
 
 -- "its number, state ..; how many memberships": of a live task

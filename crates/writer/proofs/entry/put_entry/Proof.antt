@@ -2,6 +2,7 @@ use mathlib.Core.Path.{sym, _∙_}
 use native.Mathlib.Omega.{arith}
 use Rattle.writer.proofs.Laying.{laid-none, laid-both, laid-ready}
 use Rattle.writer.proofs.Putting.{number-ready, state-short}
+use Rattle.writer.specs.Parts.{ifThere}
 use borrow.Author.Needs.{needs}
 use Rattle.writer.proofs.entry.put_entry.Statement.{statement}
 use Rattle.writer.proofs.entry.put_entry.Tie as tie
@@ -30,6 +31,7 @@ same-length : tie.Need-same-length
 same-length c = search needs
 
 returns : tie.Need-returns
+unfolding ifThere
 returns c =
     let third = c .before .before in
     let second = third .before .before .before .before in
@@ -38,6 +40,7 @@ returns c =
     (laid-both (first .put .ensures) (laid-both (second .put-state .ensures) (third .put2 .ensures)))
 
 returns-2 : tie.Need-returns-2
+unfolding ifThere
 returns-2 c = rw (sym (c .before .is-live .ensures) ∙ c .if1 .left) (laid-none _ _ _)
 
 pub put-entry-spec : {M : Type 1} → statement M

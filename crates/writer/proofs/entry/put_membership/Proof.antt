@@ -1,6 +1,7 @@
 use native.Mathlib.Omega.{arith}
 use Rattle.writer.proofs.Laying.{laid-none, laid-both}
 use Rattle.writer.proofs.Putting.{number-ready}
+use Rattle.writer.specs.Parts.{ifThere}
 use borrow.Author.Needs.{needs}
 use Rattle.writer.proofs.entry.put_membership.Statement.{statement}
 use Rattle.writer.proofs.entry.put_membership.Tie as tie
@@ -21,11 +22,13 @@ same-length : tie.Need-same-length
 same-length c = search needs
 
 returns : tie.Need-returns
+unfolding ifThere
 returns c =
     let there = c .before .before .before .before .before .before .before .before .before in
     rw (there .if1 .taken) (laid-both (c .before .before .before .before .before .before .before .put .ensures) (c .before .before .put2 .ensures))
 
 returns-2 : tie.Need-returns-2
+unfolding ifThere
 returns-2 c = rw (c .if1 .left) (laid-none _ _ _)
 
 pub put-membership-spec : {M : Type 1} → statement M

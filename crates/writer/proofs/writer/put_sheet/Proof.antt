@@ -1,17 +1,16 @@
 -- The tasks before k are laid, 370 bytes each at most; and of task k the memberships at the phasers before p, 20 bytes each at most.
 use mathlib.Core.Path.{_≡_, refl, _∙_}
-use mathlib.Core.Bool.{false}
-use Prim.Native.Nat.{_+_, _*_, _-_, _≤_}
+use Prim.Native.Nat.{_+_, _*_, _-_, _≤_, _<_}
 use native.Mathlib.Omega.{arith}
 use lib.ListN.{length, getD}
-use Rattle.states.specs.State.{freeTask, phase0}
+use Rattle.states.specs.State.{freeTask}
 use Rattle.states.specs.declared.state.State.{State}
 use Rattle.hall.specs.Table.{memberAt}
 use Rattle.hall.specs.declared.table.Table.{Table}
 use Rattle.sheet.specs.Written.{gather, memberBytes, taskBytes, liveAt}
 use Rattle.writer.specs.Parts.{Laid, flagged}
-use Rattle.writer.proofs.Laying.{laid-none, laid-both, laid-ready, laid-long}
-use Rattle.writer.proofs.Sheet.{head-short, entry-ready, member-ready, row-within, row-next, task-next, sheet-done}
+use Rattle.writer.proofs.Laying.{laid-none, laid-both, laid-same, laid-ready, laid-long}
+use Rattle.writer.proofs.Sheet.{head-short, entry-ready, member-ready, row-within, member-read, phase-read, row-next, task-next, sheet-done}
 use borrow.Author.Needs.{needs}
 use Rattle.writer.proofs.writer.put_sheet.Statement.{statement}
 use Rattle.writer.proofs.writer.put_sheet.Tie as tie
@@ -121,13 +120,14 @@ loop2-again c =
     let row = inside .before .loop2 in
     let turn = task inside in
     let k = turn .before .loop .k in
-    let i = k * 16 + row .p in
-    let ready =
-    member-ready (240 + 370 * k + 20 * (row .p + 1)) (row .inv .3) (getD (given turn .members) i false) (row .p)
-    (getD (given turn .phases) i phase0 .0) (one .put-membership .ensures) (omega (arith, row .inv .4)) in (
+    let near : k < 32 = search needs in
+    let within : row .p < 16 = search needs in
+    let ready = member-ready (240 + 370 * k + 20 * (row .p + 1)) (row .inv .3) _ _ _ (one .put-membership .ensures) (omega (arith, row .inv .4)) in (
       search needs,
       row .inv .1,
-      rw (← row-next (given turn) k (row .p) (search needs) (search needs)) (laid-both (row .inv .2) (one .put-membership .ensures)),
+      laid-same (laid-both (row .inv .2) (one .put-membership .ensures))
+          (row-next (given turn) k (row .p) _ _ (member-read (given turn) k (row .p) _ (omega arith) near within)
+          (phase-read (given turn) k (row .p) _ (omega arith) near within)),
       ready .0,
       ready .1,
     )
