@@ -32,7 +32,8 @@ module _ (t : Table) (b : List ℕ) where
     unfolding writeOf
     short-written h q = rw (e, lt-ltb _ _ h, q)
 
-    pub sheet-written : {n : ℕ} {b' : List ℕ} → length (sheetOf t) ≤ length b → Laid (length b) b 0 (sheetOf t) b' n → wrote done n b' ≡ writeOf t b
+    pub sheet-written : {n : ℕ} {b' : List ℕ} → length (sheetOf t) ≤ length b → Laid (length b) b 0 (sheetOf t) b' n
+        → wrote done n b' ≡ writeOf t b
     unfolding writeOf
     sheet-written {n} h g =
         let long : n ≡ length (sheetOf t) = omega (arith, g .place) in

@@ -24,7 +24,7 @@ length-stored room b at byte = go (ltb at room)
     go true = length-set b at byte
     go false = refl
 
-pub length-laid : (room : ℕ) (b : List ℕ) (at : ℕ) (p : List ℕ) → length (laidFrom room b at p) ≡ length b
+length-laid : (room : ℕ) (b : List ℕ) (at : ℕ) (p : List ℕ) → length (laidFrom room b at p) ≡ length b
 length-laid room b at [] = refl
 length-laid room b at (x ∷ p) = length-laid room (stored room b at x) (suc at) p ∙ length-stored room b at x
 
@@ -46,21 +46,18 @@ laid-both {room} {b} {b'} {b''} {at} {m} {n} {p} {q} g h = record {
   buffer = h .buffer ∙ rw (g .place, g .buffer) (laid-append room b at p q);
 }
 
--- there is as much room as before
-laid-room : {room : ℕ} {b b' : List ℕ} {at m : ℕ} {p : List ℕ} → Laid room b at p b' m → room ≤ length b → room ≤ length b'
-laid-room {room} {b} {b'} {at} {m} {p} g h = rw (g .buffer, length-laid room b at p) h
-
 -- the same bytes under another name
 pub laid-same : {room : ℕ} {b b' : List ℕ} {at m : ℕ} {p q : List ℕ} → Laid room b at p b' m → p ≡ q → Laid room b at q b' m
 laid-same g e = rw (← e) g
 
+-- the buffer has the length that it had
+pub laid-long : {room : ℕ} {b b' : List ℕ} {at m : ℕ} {p : List ℕ} → Laid room b at p b' m → length b' ≡ length b
+laid-long {room} {b} {b'} {at} {m} {p} g = ap length (g .buffer) ∙ length-laid room b at p
+
 -- so the next part may be laid, up to some limit
 pub laid-ready : {room : ℕ} {b b' : List ℕ} {at m : ℕ} {p : List ℕ} (limit : ℕ) → Laid room b at p b' m → room ≤ length b
     → at + length p ≤ limit → (room ≤ length b') × (m ≤ limit)
-laid-ready limit g h l = (laid-room g h, omega (arith, g .place, l))
-
-pub laid-long : {room : ℕ} {b b' : List ℕ} {at m : ℕ} {p : List ℕ} → Laid room b at p b' m → length b' ≡ length b
-laid-long {room} {b} {b'} {at} {m} {p} g = ap length (g .buffer) ∙ length-laid room b at p
+laid-ready limit g h l = (rw (laid-long g) h, omega (arith, g .place, l))
 
 -- ---- no room
 pub laid-nowhere : (b : List ℕ) (at : ℕ) (p : List ℕ) → laidFrom 0 b at p ≡ b

@@ -19,7 +19,8 @@ use Rattle.writer.proofs.Putting.{number-short, state-short}
 use Rattle.writer.proofs.Counting.{gather-next, gather-short}
 
 -- how many, and each
-pub listed-done : (f : ℕ → Bool) (g : ℕ → List ℕ) (n m many : ℕ) → m ≡ n → many ≡ count f n → numberBytes many ++ gather f g m ≡ listed f g n
+pub listed-done : (f : ℕ → Bool) (g : ℕ → List ℕ) (n m many : ℕ) → m ≡ n → many ≡ count f n
+    → numberBytes many ++ gather f g m ≡ listed f g n
 unfolding listed
 listed-done f g n m many q e = rw (q, e)
 

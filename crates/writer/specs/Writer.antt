@@ -22,7 +22,7 @@ wrote answer value buffer = record { answer = answer; value = value; buffer = bu
 abbrev pub laidOn : List ℕ → List ℕ → List ℕ
 laidOn sheet buffer = sheet ++ drop (length sheet) buffer
 
--- "Refusals: 44 as in 01, then 43 if the buffer is shorter than the sheet."
+-- "Refusals: 44 as in 01, then 43 if the buffer is shorter than the sheet." (`soundOf`, which the calls' 44 goes by too, decides `Sound`: `sound-iff`)
 unfoldable pub writeOf : Table → List ℕ → Wrote
 writeOf t b =
     cond (soundOf t)

@@ -13,7 +13,8 @@ use Rattle.written_times.proofs.write_times.Statement.{statement}
 use Rattle.written_times.proofs.write_times.Tie as tie
 
 -- one write more
-once-more : (t : Table) (i : ℕ) (first b : List ℕ) {w : Wrote} → b ≡ writtenTimes t i first .buffer → w ≡ writeOf t b → w ≡ writtenTimes t (i + 1) first
+once-more : (t : Table) (i : ℕ) (first b : List ℕ) {w : Wrote} → b ≡ writtenTimes t i first .buffer → w ≡ writeOf t b
+    → w ≡ writtenTimes t (i + 1) first
 once-more t i first b so-far told = rw (add-one i) (told ∙ ap (writeOf t) so-far)
 
 abbrev Inv-loop : tie.InvT-loop

@@ -14,12 +14,14 @@ use Rattle.written_times.proofs.written_times.Statement.{statement}
 use Rattle.written_times.proofs.written_times.Tie as tie
 
 -- what is handed back of a sheet that the reader refuses
-refused : (s : List ℕ) (n : ℕ) (b : List ℕ) {answer : ℕ} → answer ≡ sheetAt s .answer → (answer ≡ done → ⊥) → wrote answer 0 b ≡ timesOf s n b
+refused : (s : List ℕ) (n : ℕ) (b : List ℕ) {answer : ℕ} → answer ≡ sheetAt s .answer → (answer ≡ done → ⊥)
+    → wrote answer 0 b ≡ timesOf s n b
 unfolding timesOf
 refused s n b {answer} e other = rw (sym e, ne-eqb answer done other) refl
 
 -- and of one that it accepts
-accepted : (s : List ℕ) (n : ℕ) (b : List ℕ) {answer : ℕ} {t : Table} → hands answer t ≡ sheetAt s → answer ≡ done → writtenTimes t n b ≡ timesOf s n b
+accepted : (s : List ℕ) (n : ℕ) (b : List ℕ) {answer : ℕ} {t : Table} → hands answer t ≡ sheetAt s → answer ≡ done
+    → writtenTimes t n b ≡ timesOf s n b
 unfolding timesOf
 accepted s n b {answer} {t} e same = rw (sym e, eq-eqb answer done same) refl
 
