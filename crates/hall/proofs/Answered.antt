@@ -1,7 +1,7 @@
 -- Which numbers each kind of call answers.
 use mathlib.Core.Path.{_≡_, refl, ap, sym, _∙_, subst}
 use mathlib.Core.Logic.{_↔_}
-use mathlib.Core.Bool.{Bool, true, false, _&&_, not}
+use mathlib.Core.Bool.{Bool, true, false, not}
 use mathlib.Core.List.{List, _∷_}
 use Prim.Native.Nat.{ℕ, _<_, _≤_}
 use native.Mathlib.Omega.{arith}
@@ -10,7 +10,7 @@ use borrow.Author.Tests.{leb-true, leb-false, not-true}
 use Rattle.answers.specs.Answers.{noKind, notSound, among}
 use Rattle.states.specs.Tests.{Test, refusalOf}
 use Rattle.states.proofs.Refusals.{refuses, tail, eachTest, each-told}
-use Rattle.states.proofs.Truth.{clash, and-left, and-right}
+use Rattle.states.proofs.Truth.{clash, and-right}
 use Rattle.hall.specs.Answers.{answersOf}
 use Rattle.hall.specs.Calls.{refused, ruled, kindCount, callOf}
 use Rattle.hall.specs.Every.{every}
@@ -47,14 +47,10 @@ module _ {t : Table} {call : Called} {tests : List Test} {effect : Called} {Told
   row-unsound : soundOf t ≡ false → call ≡ refused t notSound
   row-unsound s = r .is ∙ (ap (λ (x : List Test). ruled t x effect) (r .first) ∙ unsound t (tail tests) effect s)
 
--- 42 and 44 are no kind's own
-apart : (kind : ℕ) → kind < kindCount → (among noKind (answersOf kind) ≡ false) × (among notSound (answersOf kind) ≡ false)
-unfolding every
-apart kind h =
-    let x = every-at (λ k. not (among noKind (answersOf k)) && not (among notSound (answersOf k))) kindCount kind refl h in
-    let m = among noKind (answersOf kind) in
-    let n = among notSound (answersOf kind) in
-    (not-true m (and-left (not m) (not n) x), not-true n (and-right (not m) (not n) x))
+-- a number that is no kind's own: a test over all of them, which computes
+pub apart : (n : ℕ) → every (λ k. not (among n (answersOf k))) kindCount ≡ true → (kind : ℕ) → kind < kindCount
+    → among n (answersOf kind) ≡ false
+apart n e kind h = not-true (among n (answersOf kind)) (every-at (λ k. not (among n (answersOf k))) kindCount kind e h)
 
 module _ (t : Table) (c : Call) where
   -- over a sound table every answer of a kind is one of its own numbers
@@ -78,17 +74,19 @@ module _ (t : Table) (c : Call) where
 
   -- 42 is answered exactly where there is no such kind, 44 exactly where there is and the table is not sound
   pub no-kind-iff : (callOf t c .answer ≡ noKind) ↔ (kindCount ≤ c .kind)
+  unfolding every
   no-kind-iff = (λ e. go (leb kindCount (c .kind)) refl e, λ h. ap (λ (d : Called). d .answer) (no-kind-refused t c h))
     where
       go : (b : Bool) → leb kindCount (c .kind) ≡ b → answered noKind → kindCount ≤ c .kind
       go true q e = leb-true kindCount (c .kind) q
       go false q e =
           let h = leb-false kindCount (c .kind) q in
-          absurd (omega (arith, other h noKind (apart (c .kind) h .0) e .1))
+          absurd (omega (arith, other h noKind (apart noKind refl (c .kind) h) e .1))
 
   pub unsound-iff : (callOf t c .answer ≡ notSound) ↔ ((c .kind < kindCount) × (soundOf t ≡ false))
+  unfolding every
   unsound-iff = (λ e. go (leb kindCount (c .kind)) refl e, λ x. ap (λ (d : Called). d .answer) (unsound-refused (x .0) (x .1)))
     where
       go : (b : Bool) → leb kindCount (c .kind) ≡ b → answered notSound → (c .kind < kindCount) × (soundOf t ≡ false)
       go true q e = absurd (omega (arith, e, ap (λ (d : Called). d .answer) (no-kind-refused t c (leb-true kindCount (c .kind) q))))
-      go false q e = let h = leb-false kindCount (c .kind) q in (h, other h notSound (apart (c .kind) h .1) e .0)
+      go false q e = let h = leb-false kindCount (c .kind) q in (h, other h notSound (apart notSound refl (c .kind) h) e .0)
