@@ -8,6 +8,8 @@ pub mod Answers
 pub mod Moves
 pub mod ByRoute
 pub mod Verdicts
+pub mod SheetSeries
 pub mod OfSheets
+pub mod OfSheetCalls
 pub mod OfTables
 pub mod OneAnswers

@@ -25,11 +25,16 @@ use Rattle.mollavisce.proofs.Entered.{Way, no-route, short, reached, way, refus
 use Rattle.mollavisce.proofs.Fits.{sheet-fits}
 use Rattle.mollavisce.proofs.ReadBack.{entered-judged}
 use Rattle.demands.specs.Demands.{SheetOfSound, OfSheet, NamesTheStuck, MeansNever, SheetRead, TableJudged, SheetVerdict, SheetAnswered}
+use Rattle.demands.proofs.SheetSeries.{by-sheets}
 use Rattle.demands.proofs.Verdicts.{table-judged}
 use Rattle.judge.specs.Routes.{largestRoute}
 
 holds-true : (b : Bool) → T b → b ≡ true
 holds-true true h = refl
+
+pub later : (b : Bool) {c : Bool} → c ≡ true → b || c ≡ true
+later true e = refl
+later false e = e
 
 -- ---- the reader
 module _ (sheet : List ℕ) (bytes : Bytes sheet) where
@@ -52,7 +57,7 @@ module _ (sheet : List ℕ) (bytes : Bytes sheet) where
       b : t ≡ sheetAt sheet .table
       b = ap (λ (s : Sheet). s .table) e
 
-  accepted-sound : sheetAt sheet .answer ≡ done → SheetOfSound sheet
+  abbrev pub accepted-sound : sheetAt sheet .answer ≡ done → SheetOfSound sheet
   accepted-sound a =
       let h = accepts sheet bytes (sheetAt sheet .table) .0 (a, refl) in
       record { table = sheetAt sheet .table; shaped = h .1; sound = h .0; is = h .2 }
@@ -60,9 +65,9 @@ module _ (sheet : List ℕ) (bytes : Bytes sheet) where
   sound-accepted : SheetOfSound sheet → sheetAt sheet .answer ≡ done
   sound-accepted o = accepts sheet bytes (o .table) .1 (o .sound, o .shaped, o .is) .0
 
-  -- 41 and 40 are no answers of the reader
-  apart : (n : ℕ) → among n sheetAnswers ≡ false → sheetAt sheet .answer ≡ n → ⊥
-  apart n m e = subst T m (subst (λ (k : ℕ). T (among k sheetAnswers)) e (answers sheet bytes))
+  -- a number that is none of the reader's
+  pub no-answer : (n : ℕ) → among n sheetAnswers ≡ false → sheetAt sheet .answer ≡ n → ⊥
+  no-answer n m e = subst T m (subst (λ (k : ℕ). T (among k sheetAnswers)) e (answers sheet bytes))
 
   -- ---- the verdict of a sheet
   module _ (route : ℕ) (v : Verdict) (j : VerdictOf sheet route v) where
@@ -94,7 +99,7 @@ module _ (sheet : List ℕ) (bytes : Bytes sheet) where
       where
         go : v .answer ≡ noRoute → Dec (largestRoute < route) → largestRoute < route
         go e (yes l) = l
-        go e (no l) = absurd (apart noRoute refl (sym (fault (omega arith)) ∙ e))
+        go e (no l) = absurd (no-answer noRoute refl (sym (fault (omega arith)) ∙ e))
 
         yes-or : v .answer ≡ done → Dec (largestRoute < route) → (route ≤ largestRoute) × SheetOfSound sheet
         yes-or e (yes l) = absurd (omega (arith, e, ap (λ (w : Verdict). w .answer) (j .no-route l)))
@@ -103,10 +108,6 @@ module _ (sheet : List ℕ) (bytes : Bytes sheet) where
         own : Dec (largestRoute < route) → among (v .answer) (noRoute ∷ sheetAnswers) ≡ true
         own (yes l) = rw (ap (λ (w : Verdict). w .answer) (j .no-route l)) refl
         own (no l) = rw (fault (omega arith)) (later (eqb (sheetAt sheet .answer) noRoute) (holds-true _ (answers sheet bytes)))
-          where
-            later : (b : Bool) {c : Bool} → c ≡ true → b || c ≡ true
-            later true e = refl
-            later false e = e
 
         refusal : (v .answer ≡ done → ⊥) → Dec (largestRoute < route) → Dec (sheetAt sheet .answer ≡ done) → v ≡ nobody (v .answer)
         refusal n (yes l) d = let e = j .no-route l in e ∙ ap nobody (sym (ap (λ (w : Verdict). w .answer) e))
@@ -137,6 +138,7 @@ module _ (sheet : List ℕ) (bytes : Bytes sheet) (route : ℕ) (before after : 
     rest = rest (way sheet route before after answer x);
     names = λ e. sheet-verdict sheet bytes route (verdictIn after) (judged e) .names refl;
     never = λ e. sheet-verdict sheet bytes route (verdictIn after) (judged e) .never refl;
+    never-on = λ e t z s q. rw q (by-sheets t z s (verdictIn after) (sheet-verdict sheet bytes route (verdictIn after) (judged e) .never refl t z s q));
   }
     where
       fault : route ≤ largestRoute → 38 ≤ length before → answer ≡ sheetAt sheet .answer
@@ -148,12 +150,12 @@ module _ (sheet : List ℕ) (bytes : Bytes sheet) (route : ℕ) (before after : 
       no-such : answer ≡ noRoute → Way sheet route before after answer → largestRoute < route
       no-such e (no-route l a s) = l
       no-such e (short l m a s) = absurd (omega arith)
-      no-such e (reached r) = absurd (apart sheet bytes noRoute refl (sym (fault (r .route-there) (r .long)) ∙ e))
+      no-such e (reached r) = absurd (no-answer sheet bytes noRoute refl (sym (fault (r .route-there) (r .long)) ∙ e))
 
       too-short : answer ≡ shortStrip → Way sheet route before after answer → (route ≤ largestRoute) × (length before < 38)
       too-short e (no-route l a s) = absurd (omega arith)
       too-short e (short l m a s) = (l, m)
-      too-short e (reached r) = absurd (apart sheet bytes shortStrip refl (sym (fault (r .route-there) (r .long)) ∙ e))
+      too-short e (reached r) = absurd (no-answer sheet bytes shortStrip refl (sym (fault (r .route-there) (r .long)) ∙ e))
 
       good : answer ≡ done → Way sheet route before after answer → (route ≤ largestRoute) × (38 ≤ length before) × SheetOfSound sheet
       good e (no-route l a s) = absurd (omega arith)

@@ -1,5 +1,6 @@
 -- Each public promise allows one answer.
 use mathlib.Core.Path.{_≡_, ap, sym, _∙_}
+use mathlib.Core.List.{List}
 use Prim.Native.Nat.{ℕ}
 use denote.Ref.{now}
 use Rattle.sets.specs.Set.{Has}
@@ -17,6 +18,7 @@ use Rattle.text.specs.Verdict.{verdictText}
 use Rattle.sheet.specs.Reader.{Sheet}
 use Rattle.sheet.proofs.Theorems.{one-number}
 use Rattle.writer.proofs.Theorems.{written-one}
+use Rattle.sheet_call.proofs.Theorems.{handed-one}
 use Rattle.mollavisce.proofs.One.{sheet-judged-one, entered-one}
 use Rattle.demands.specs.OneAnswer.{One, OneLent, OneAnswer}
 use Rattle.demands.proofs.OfTables.{rewritten-one}
@@ -27,6 +29,7 @@ use Rattle.demands.proofs.judging.routes.Reads as own·routes
 use Rattle.demands.proofs.sheets.read.Reads as own·read
 use Rattle.demands.proofs.sheets.verdict_of.Reads as own·verdict-of
 use Rattle.demands.proofs.sheets.sheet_verdict.Reads as own·sheet-verdict
+use Rattle.demands.proofs.sheets.sheet_call.Reads as own·sheet-call
 use Rattle.demands.proofs.sheets.text_of.Reads as own·text-of
 use Rattle.demands.proofs.writing.write.Reads as own·write
 use Rattle.demands.proofs.writing.rewrite.Reads as own·rewrite
@@ -107,6 +110,7 @@ one-answer = record {
     λ κ a r r′ e e′ p q. (ap (λ (s : Sheet). s .table) (both p q), ap (λ (s : Sheet). s .answer) (both p q)),
   );
   writer = λ κ a r r′ e e′ p q. written-one r r′ (both p q);
+  sheet-call = λ κ a r r′ e e′ p q. handed-one (both p q);
   mollavisce = (
     λ κ a r r′ e e′. sheet-judged-one _ (a .1 .0) r r′,
     λ κ a r r′ e e′. entered-one _ (a .1 .0) _ r r′ _ _,
@@ -142,6 +146,10 @@ verdict-of-one κ a r r′ e e′ p q = sheet-judged-one _ (a .1 .0) r r′ (p .
 
 pub sheet-verdict-one : OneLent (λ κ e. now (e .1 .1 .0)) own·sheet-verdict.Learnt
 sheet-verdict-one κ a r r′ e e′ p q = entered-one _ (a .1 .0) _ r r′ _ _ (p .is) (q .is)
+
+pub sheet-call-one : OneLent {B = List ℕ × ℕ × ℕ}
+    (λ κ e. let lent = e .1 .1 .1 .1 .1 .1 in (now (lent .0), now (lent .1 .0), now (lent .1 .1 .0))) own·sheet-call.Learnt
+sheet-call-one κ a r r′ e e′ p q = handed-one (both (p .is) (q .is))
 
 pub text-of-one : One own·text-of.Learnt
 text-of-one κ a r r′ e e′ p q =

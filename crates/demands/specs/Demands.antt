@@ -31,7 +31,7 @@ use Rattle.writer.specs.Writer.{wrote, laidOn, writeOf}
 use Rattle.mollavisce.specs.Entry.{entryAnswers, VerdictOf, Entered}
 use Rattle.mollavisce.specs.Strip.{verdictIn}
 use Rattle.demands.specs.PhaserDeadlocks.{TaskMap, StandsFor, DeadlockedWith}
-use Rattle.demands.specs.Series.{StuckIn, Never, WayOn}
+use Rattle.demands.specs.Series.{StuckIn, Never, WayOn, NeverOn, WayOnFrom}
 use Rattle.hall.specs.declared.calls.Call.{Call}
 use Rattle.hall.specs.Calls.{kindCount, callOf}
 
@@ -131,6 +131,11 @@ pub record MeansNever (t : Table) (v : Verdict) : Type 0 where
   -- "a task left off the list must have a way to go on"
   pub way-on : (k : ℕ) (e : Awaited) → BlockedOn t k e → (Has (v .named) k → ⊥) → WayOn t k
 
+-- the same of the sheet of that table, where the calls are a C++ host's `sheet_call`s, each on the sheet that those before it left
+pub record MeansNeverOn (sheet : List ℕ) (t : Table) (v : Verdict) : Type 0 where
+  pub never : (k : ℕ) (e : Awaited) → BlockedOn t k e → Has (v .named) k ↔ NeverOn sheet k
+  pub way-on : (k : ℕ) (e : Awaited) → BlockedOn t k e → (Has (v .named) k → ⊥) → WayOnFrom sheet k
+
 -- "In every sound table the task-to-task route and the event-to-event route name the same tasks": as the two routes hand them back
 pub record RoutesAgree (t : Table) (tasks events : ℕ) : Type 0 where
   pub same : tasks ≡ events
@@ -176,6 +181,7 @@ pub record SheetAnswered (sheet : List ℕ) (route : ℕ) (before after : List �
   pub rest : drop 38 after ≡ drop 38 before
   pub names : answer ≡ done → OfSheet sheet (λ t. NamesTheStuck t (verdictIn after))
   pub never : answer ≡ done → OfSheet sheet (λ t. MeansNever t (verdictIn after))
+  pub never-on : answer ≡ done → OfSheet sheet (λ t. MeansNeverOn sheet t (verdictIn after))
 
 -- "`sheetverdict` reads a sheet from standard input, judges by route 0 and prints" (document 01): the lines of that verdict, whole
 pub record SheetPrinted (sheet : List ℕ) (text : Text) : Type 0 where

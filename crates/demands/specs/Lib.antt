@@ -2,4 +2,5 @@ pub mod Series
 pub mod PhaserDeadlocks
 pub mod Moves
 pub mod Demands
+pub mod SheetCalls
 pub mod OneAnswer

@@ -2,6 +2,8 @@
 -- lent byte. That two answers allowed by it are equal is itself proved". Each public function of the library, by crates. `Learnt` is what a caller learns
 -- of a call: the function's own `ensures`, as the checker has it, over the arguments, the result and what was lent, as it is after the call.
 use mathlib.Core.Path.{_≡_}
+use mathlib.Core.List.{List}
+use Prim.Native.Nat.{ℕ}
 use denote.Ref.{now}
 use Rattle.sets.proofs.has.Reads as sets·has
 use Rattle.sets.proofs.only.Reads as sets·only
@@ -61,6 +63,7 @@ use Rattle.sheet.proofs.number.read.Reads as sheet·number
 use Rattle.sheet.proofs.number.rising.Reads as sheet·rising
 use Rattle.sheet.proofs.reader.read.Reads as sheet·read
 use Rattle.writer.proofs.writer.write.Reads as writer·write
+use Rattle.sheet_call.proofs.sheet_call.Reads as sheet-call·sheet-call
 use Rattle.mollavisce.proofs.entry.verdict_of.Reads as mollavisce·verdict-of
 use Rattle.mollavisce.proofs.entry.sheet_verdict.Reads as mollavisce·sheet-verdict
 
@@ -92,4 +95,7 @@ pub record OneAnswer : Type 1 where
   pub text : One text·text-of.Learnt
   pub sheet : One sheet·plain.Learnt × One sheet·number.Learnt × One sheet·rising.Learnt × OneLent (λ κ e. now (e .1 .0)) sheet·read.Learnt
   pub writer : OneLent (λ κ e. now (e .1 .0)) writer·write.Learnt
+  -- `next`, `value` and `length`, its seventh parameter and the two after it
+  pub sheet-call : OneLent {B = List ℕ × ℕ × ℕ}
+      (λ κ e. let lent = e .1 .1 .1 .1 .1 .1 in (now (lent .0), now (lent .1 .0), now (lent .1 .1 .0))) sheet-call·sheet-call.Learnt
   pub mollavisce : One mollavisce·verdict-of.Learnt × OneLent (λ κ e. now (e .1 .1 .0)) mollavisce·sheet-verdict.Learnt

@@ -2,14 +2,18 @@
 -- accepted release of it."
 use mathlib.Core.Path.{_≡_}
 use mathlib.Core.Logic.{_⊎_}
+use mathlib.Core.Bool.{cond}
 use mathlib.Core.List.{List, [], _∷_, _++_}
 use Prim.Native.Nat.{ℕ, _<_}
+use lib.Dec.{ltb}
+use lib.ListN.{take}
 use Rattle.sets.specs.Set.{Has}
 use Rattle.deadlock.specs.Waiting.{TotallyDeadlocked}
 use Rattle.hall.specs.Calls.{call, callOf}
 use Rattle.hall.specs.Waiting.{BlockedOn, Impedes}
 use Rattle.hall.specs.declared.calls.Call.{Call}
 use Rattle.hall.specs.declared.table.Table.{Table}
+use Rattle.sheet_call.specs.Call.{Handed, sheetCallOf}
 
 -- "A task is named when some totally deadlocked set holds it" (document 01, 'Stuck'). A set of tasks is a number, bit k for task k; a law has the same of any
 -- predicate on tasks in its place
@@ -53,3 +57,39 @@ release k = call 9 k 0 0
 pub record WayOn (t : Table) (k : ℕ) : Type 0 where
   pub calls : List Call
   pub series : Series t (calls ++ (release k ∷ []))
+
+-- ---- the same as a C++ host makes it, by `sheet_call`s: a call, and the buffer that is lent for the next sheet
+pub record SheetStep : Type 0 where
+  pub call : Call
+  pub next : List ℕ
+
+abbrev pub handedBy : List ℕ → SheetStep → Handed
+handedBy sheet s = sheetCallOf sheet (s .call) (s .next)
+
+-- the sheet that an accepted call leaves
+abbrev pub kept : Handed → List ℕ
+kept h = take (h .length) (h .next)
+
+-- each is accepted on the sheet that those before it left
+abbrev pub SheetSeries : List ℕ → List SheetStep → Type 0
+SheetSeries sheet [] = Unit {0}
+SheetSeries sheet (s ∷ steps) = (handedBy sheet s .answer < 10) × SheetSeries (kept (handedBy sheet s)) steps
+
+abbrev pub callsOf : List SheetStep → List Call
+callsOf [] = []
+callsOf (s ∷ steps) = s .call ∷ callsOf steps
+
+-- the sheet that steps leave, accepted or refused: after a refusal a host goes on with the one that it has
+abbrev pub sheetAfter : List ℕ → List SheetStep → List ℕ
+sheetAfter sheet [] = sheet
+sheetAfter sheet (s ∷ steps) = sheetAfter (cond (ltb (handedBy sheet s .answer) 10) (kept (handedBy sheet s)) sheet) steps
+
+-- no series of accepted `sheet_call`s contains a release of task k
+abbrev pub NeverOn : List ℕ → ℕ → Type 0
+NeverOn sheet k = (steps : List SheetStep) → SheetSeries sheet steps → Contains k (callsOf steps) → ⊥
+
+-- one ends in it
+pub record WayOnFrom (sheet : List ℕ) (k : ℕ) : Type 0 where
+  pub steps : List SheetStep
+  pub next : List ℕ
+  pub series : SheetSeries sheet (steps ++ (record { call = release k; next = next } ∷ []))

@@ -9,6 +9,7 @@ use Rattle.demands.specs.Demands.{CallAnswered}
 use Rattle.demands.specs.Moves.{ByRules}
 use Rattle.hall.specs.declared.calls.Call.{Call}
 use Rattle.hall.specs.Calls.{callOf}
+use Rattle.hall.proofs.One.{same-call}
 use Rattle.demands.proofs.Answers.{call-answered}
 use Rattle.demands.proofs.Moves.{by-rules}
 use Rattle.demands.proofs.calls.call.Statement.{statement}
@@ -24,8 +25,7 @@ call-requires c κs = search needs
 of-row : (t : Table) → Shaped t → (c d : Call) (r : Called) → r ≡ callOf t d → d .kind ≡ c .kind → d .task ≡ c .task → d .phaser ≡ c .phaser
     → d .other ≡ c .other → CallAnswered t c r × ByRules t c r
 of-row t z c d r e k a p o =
-    let same : d ≡ c = λ i. record { kind = k i; task = a i; phaser = p i; other = o i } in
-    let row : r ≡ callOf t c = e ∙ ap (callOf t) same in
+    let row : r ≡ callOf t c = e ∙ ap (callOf t) (same-call c d k a p o) in
     (subst (CallAnswered t c) (sym row) (call-answered t z c), subst (ByRules t c) (sym row) (by-rules t z c))
 
 returns : tie.Need-returns

@@ -1,0 +1,158 @@
+-- What is handed over for a call on a sheet: demands 1 and 2, of what `sheet_call` promises.
+use mathlib.Core.Path.{_≡_, refl, ap, sym, _∙_, subst}
+use mathlib.Core.Bool.{Bool, true, false, _&&_, _||_}
+use mathlib.Core.List.{List, [], _∷_}
+use Prim.Native.Nat.{ℕ, _<_, _≤_}
+use native.Mathlib.Omega.{arith}
+use lib.Dec.{T, eqb, leb}
+use lib.ListN.{length, drop}
+use borrow.Author.Tests.{eqb-true, leb-true, ne-eqb}
+use Rattle.answers.specs.Answers.{done, noKind, shortBuffer, among}
+use Rattle.states.proofs.Truth.{clash, and-left, and-right}
+use Rattle.hall.specs.Answers.{answersOf}
+use Rattle.hall.specs.Calls.{kindCount, callOf}
+use Rattle.hall.specs.Every.{every}
+use Rattle.hall.specs.Sound.{Sound}
+use Rattle.hall.specs.Table.{Shaped}
+use Rattle.hall.specs.declared.calls.Call.{Call}
+use Rattle.hall.specs.declared.table.Table.{Table}
+use Rattle.hall.proofs.Answered.{apart, sound-answers, no-kind-iff}
+use Rattle.hall.proofs.Kept.{call-shaped}
+use Rattle.hall.proofs.One.{same-call}
+use Rattle.hall.proofs.Soundness.{sound-iff}
+use Rattle.sheet.specs.Answers.{sheetRefusals}
+use Rattle.sheet.specs.Reader.{sheetAt}
+use Rattle.sheet.specs.Written.{sheetOf}
+use Rattle.sheet.proofs.Numbers.{Bytes}
+use Rattle.sheet.proofs.Theorems.{answers}
+use Rattle.sheet_call.specs.Call.{Handed, handOn, sheetCallOf}
+use Rattle.sheet_call.proofs.HandedOn.{no-kind-handed, fault-handed}
+use Rattle.sheet_call.proofs.Theorems.{HandedOn, refused, short, whole, handed-on, handed-sheet, handed-rest}
+use Rattle.sheet_call.proofs.Theorems.{CalledOn, no-kind, fault, made, called-on, call-stays, call-sheet}
+use Rattle.demands.specs.SheetCalls.{CallOn, NextSheet, SheetCallAnswered}
+use Rattle.demands.proofs.Answers.{call-answered}
+use Rattle.demands.proofs.Moves.{by-rules}
+use Rattle.demands.proofs.OfSheets.{accepted-sound, later, no-answer}
+use Rattle.demands.proofs.SheetSeries.{next-sound, too-short}
+
+-- 43 is no kind's own: a call on a sound table never answers it
+not-short : (t : Table) → Sound t → (c : Call) → c .kind < kindCount → callOf t c .answer ≡ shortBuffer → ⊥
+unfolding every
+not-short t s c l e =
+    clash (ap (λ (n : ℕ). among n (answersOf (c .kind))) (sym e) ∙ sound-answers t c l (sound-iff t .1 s)) (apart shortBuffer refl (c .kind) l)
+
+-- the sheet's refusals are 10 or more, as all are
+high : List ℕ → Bool
+high [] = true
+high (x ∷ l) = leb 10 x && high l
+
+among-high : (n : ℕ) (l : List ℕ) → high l ≡ true → T (among n l) → 10 ≤ n
+unfolding high
+among-high n (x ∷ l) e h = go (eqb n x) refl h (among-high n l (and-right (leb 10 x) (high l) e))
+  where
+    go : (b : Bool) → eqb n x ≡ b → T (b || among n l) → (T (among n l) → 10 ≤ n) → 10 ≤ n
+    go true q m more = omega (arith, eqb-true n x q, leb-true 10 x (and-left (leb 10 x) (high l) e))
+    go false q m more = more m
+
+fault-high : (sheet : List ℕ) → Bytes sheet → (sheetAt sheet .answer ≡ done → ⊥) → 10 ≤ sheetAt sheet .answer
+unfolding high
+fault-high sheet bytes n =
+    among-high (sheetAt sheet .answer) sheetRefusals refl (rw (ne-eqb (sheetAt sheet .answer) done n) at (answers sheet bytes))
+
+module _ (sheet : List ℕ) (bytes : Bytes sheet) (c : Call) (b : List ℕ) where
+  known-kind : {h : Handed} → CalledOn sheet c b h → h .answer ≡ noKind → kindCount ≤ c .kind
+  known-kind (no-kind l) e = l
+  known-kind (fault l n) e = absurd (no-answer sheet bytes noKind refl e)
+  known-kind (made l d (refused m)) e = no-kind-iff _ c .0 e
+  known-kind (made l d (short a m)) e = absurd (omega (arith, e))
+  known-kind (made l d (whole a m)) e = absurd (omega (arith, e, a))
+
+  short-on : {h : Handed} → CalledOn sheet c b h → h .answer ≡ shortBuffer → CallOn sheet c (λ u. length b < length (sheetOf u))
+  short-on (no-kind l) e = absurd (omega (arith, e))
+  short-on (fault l n) e = absurd (no-answer sheet bytes shortBuffer refl e)
+  short-on (made l d (refused m)) e = absurd (not-short _ (accepted-sound sheet bytes d .sound) c l e)
+  short-on (made l d (short a m)) e = record { of = accepted-sound sheet bytes d; accepted = a; next = m }
+  short-on (made l d (whole a m)) e = absurd (omega (arith, e, a))
+
+  accepted-on : {h : Handed} → CalledOn sheet c b h → h .answer < 10 → CallOn sheet c (λ u. length (sheetOf u) ≤ length b)
+  accepted-on (no-kind l) e = absurd (omega (arith, e))
+  accepted-on (fault l n) e = absurd (omega (arith, e, fault-high sheet bytes n))
+  accepted-on (made l d (refused m)) e = absurd (omega (arith, e, m))
+  accepted-on (made l d (short a m)) e = absurd (omega (arith, e))
+  accepted-on (made l d (whole a m)) e = record { of = accepted-sound sheet bytes d; accepted = a; next = m }
+
+  rest-on : {h : Handed} → CalledOn sheet c b h → drop (h .length) (h .next) ≡ drop (h .length) b
+  rest-on (no-kind l) = refl
+  rest-on (fault l n) = refl
+  rest-on (made l d x) = handed-rest x
+
+  -- ---- the other way: of any sound table whose sheet it is
+  of-table : (t : Table) → Shaped t → Sound t → sheet ≡ sheetOf t → sheetCallOf sheet c b ≡ handOn (callOf t c) b
+  of-table t z s q = ap (λ (x : List ℕ). sheetCallOf x c b) q ∙ call-sheet t s z c b
+
+  on-short : CallOn sheet c (λ u. length b < length (sheetOf u)) → sheetCallOf sheet c b .answer ≡ shortBuffer
+  on-short x =
+      let o = x .of in
+      subst (λ (h : Handed). h .answer ≡ shortBuffer) (sym (of-table (o .table) (o .shaped) (o .sound) (o .is))) (go (handed-on (callOf (o .table) c) b))
+    where
+      go : {h : Handed} → HandedOn (callOf (x .of .table) c) b h → h .answer ≡ shortBuffer
+      go (refused l) = absurd (omega (arith, l, x .accepted))
+      go (short a l) = refl
+      go (whole a l) = absurd (omega (arith, l, x .next))
+
+  on-accepted : CallOn sheet c (λ u. length (sheetOf u) ≤ length b) → sheetCallOf sheet c b .answer < 10
+  on-accepted x =
+      let o = x .of in
+      subst (λ (h : Handed). h .answer < 10) (sym (of-table (o .table) (o .shaped) (o .sound) (o .is))) (go (handed-on (callOf (o .table) c) b))
+    where
+      go : {h : Handed} → HandedOn (callOf (x .of .table) c) b h → h .answer < 10
+      go (refused l) = absurd (omega (arith, l, x .accepted))
+      go (short a l) = absurd (omega (arith, l, x .next))
+      go (whole a l) = a
+
+  own : (t : Table) → Sound t → c .kind < kindCount → {h : Handed} → HandedOn (callOf t c) b h
+      → among (h .answer) (shortBuffer ∷ answersOf (c .kind)) ≡ true
+  own t s l (refused m) = later (eqb (callOf t c .answer) shortBuffer) (sound-answers t c l (sound-iff t .1 s))
+  own t s l (short a m) = refl
+  own t s l (whole a m) = later (eqb (callOf t c .answer) shortBuffer) (sound-answers t c l (sound-iff t .1 s))
+
+  next-sheet : (t : Table) → Shaped t → Sound t → {h : Handed} → HandedOn (callOf t c) b h → h .answer < 10 → NextSheet t c h
+  next-sheet t z s x l =
+      let y = handed-sheet x l in
+      record {
+        called = callOf t c;
+        answered = call-answered t z c;
+        moves = by-rules t z c;
+        answer = y .0;
+        value = y .1;
+        sheet = y .2;
+        shaped = call-shaped t z c;
+        sound = next-sound t s z c;
+      }
+
+  of-sheet-call : SheetCallAnswered sheet c b (sheetCallOf sheet c b)
+  of-sheet-call = record {
+    is = refl;
+    call = of-table;
+    no-kind = (known-kind (called-on sheet c b), λ l. ap (λ (h : Handed). h .answer) (no-kind-handed sheet c b l));
+    fault = λ l n. ap (λ (h : Handed). h .answer) (fault-handed sheet c b l n);
+    own = λ l t z s q. own t s l (handed t z s q);
+    short = (short-on (called-on sheet c b), on-short);
+    accepted = (accepted-on (called-on sheet c b), on-accepted);
+    enough = λ room e.
+        let x = short-on (called-on sheet c b) e in
+        too-short (x .of .table) (x .of .sound) (x .of .shaped) c b room (x .next);
+    refusal = λ l. let e = call-stays (called-on sheet c b) l in
+        (ap (λ (h : Handed). h .value) e, ap (λ (h : Handed). h .length) e, ap (λ (h : Handed). h .next) e);
+    next = λ l t z s q. next-sheet t z s (handed t z s q) l;
+    rest = rest-on (called-on sheet c b);
+  }
+    where
+      handed : (t : Table) → Shaped t → Sound t → sheet ≡ sheetOf t → HandedOn (callOf t c) b (sheetCallOf sheet c b)
+      handed t z s q = subst (HandedOn (callOf t c) b) (sym (of-table t z s q)) (handed-on (callOf t c) b)
+
+  -- of a call with the same numbers
+  pub sheet-called-by : (d : Call) (h : Handed) → h ≡ sheetCallOf sheet d b → d .kind ≡ c .kind → d .task ≡ c .task → d .phaser ≡ c .phaser
+      → d .other ≡ c .other → SheetCallAnswered sheet c b h
+  sheet-called-by d h e k a p o =
+      subst (SheetCallAnswered sheet c b) (sym (e ∙ ap (λ (x : Call). sheetCallOf sheet x b) (same-call c d k a p o))) of-sheet-call
