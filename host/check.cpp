@@ -289,7 +289,8 @@ void rings(unsigned count) {
     const Bytes sheet = stepping(next);
     const auto verdict = mollavisce::judge(sheet);
     present = {&sheet, 0, strip_bytes};
-    ask(verdict.count() == 32 && verdict.ring_length() == 32 && verdict.ring(31) == 31, "not a ring of all 32");
+    ask(verdict.count() == 32 && verdict.ring_length() == 32 && verdict.ring(31) == mollavisce::Task{31},
+        "not a ring of all 32");
     both(sheet);
     for (; count > 0; --count) {
         for (unsigned &step : next)
