@@ -10,6 +10,14 @@ namespace code {
 
 using mollavisce::Answer, mollavisce::number;
 
+constexpr bool begins_alike() {
+    for (std::size_t at = 0; at < std::size(code::FRESH_SHEET); ++at)
+        if (mollavisce::fresh_sheet[at] != code::FRESH_SHEET[at])
+            return false;
+    return mollavisce::fresh_sheet.size() == std::size(code::FRESH_SHEET);
+}
+static_assert(begins_alike());
+
 static_assert(mollavisce::longest_sheet == code::LONGEST_SHEET);
 static_assert(mollavisce::settling_bytes == code::SETTLING_BYTES);
 static_assert(mollavisce::strip_bytes == code::STRIP_BYTES);

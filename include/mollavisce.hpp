@@ -4,9 +4,10 @@
 //     mollavisce::Hall hall;                                                // fresh: no task, no gate
 //     const mollavisce::Task seat = hall.open_task().task();
 //     const mollavisce::Phaser frames = hall.open_phaser(seat).phaser();
-//     const mollavisce::Called waited = hall.wait_at(seat, frames, mollavisce::Phase{1});  // waited.words(): "now
-//     blocked" const mollavisce::Verdict verdict = mollavisce::judge(hall); if (verdict.accepted() &&
-//     verdict.names(seat)) ...                    // no series of calls will release the seat
+//     const mollavisce::Called waited = hall.wait_at(seat, frames, mollavisce::Phase{1});
+//     waited.words();                                                       // "now blocked"
+//     const mollavisce::Verdict verdict = mollavisce::judge(hall);
+//     if (verdict.accepted() && verdict.names(seat)) ...                    // no series of calls will release the seat
 //
 // No heap, no exceptions, no state beside the values that you hold. What is proved is proved of the two entries in
 // mollavisce.h, which also lists what they leave to you; this header hands them buffers of its own, so that there is
