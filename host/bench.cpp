@@ -1,6 +1,5 @@
 // Time of a whole verdict by either route, of sheets that are accepted and of sheets that are refused, beside plain C++
-// (reference.cpp) in the same run; the stack of a verdict; and, with WRITTEN_TIMES, the time to write a table. Fails
-// where the stack is over 12 kB. No time has a limit.
+// (reference.cpp) in the same run; and the stack of a verdict. Fails where that is over 12 kB. No time has a limit.
 #include "reference.hpp"
 
 #include <mollavisce.hpp>
@@ -17,14 +16,7 @@
 namespace reference_o3 { // the same file once more, compiled at -O3
 std::uint32_t verdict(const std::uint8_t *sheet, std::size_t length, std::uint64_t route, std::uint8_t *strip,
                       std::size_t strip_length);
-std::uint32_t written_times(const std::uint8_t *sheet, std::size_t length, std::uint64_t times, std::uint8_t *buffer,
-                            std::size_t buffer_length);
 } // namespace reference_o3
-
-#ifdef WRITTEN_TIMES // crates/written_times: what reference.hpp says of its namesake
-extern "C" std::uint32_t written_times(const std::uint8_t *sheet, std::size_t length, std::uint64_t times,
-                                       std::uint8_t *buffer, std::size_t buffer_length);
-#endif
 
 namespace {
 
@@ -111,7 +103,7 @@ std::size_t stack_of(const Way &way, const Bytes &sheet) {
 
 Bytes written(const reference::Table &table) {
     Bytes sheet(mollavisce::longest_sheet);
-    sheet.resize(reference::write(table, sheet.data(), sheet.size()).value);
+    sheet.resize(reference::write(table, sheet.data(), sheet.size()));
     return sheet;
 }
 
@@ -166,80 +158,6 @@ void measure(const Row &row, std::uint32_t answer) {
     std::printf("\n");
 }
 
-#ifdef WRITTEN_TIMES
-
-// Writing
-
-constexpr std::size_t writer_count = 3;
-const decltype(&written_times) writers[writer_count] = {written_times, reference::written_times,
-                                                        reference_o3::written_times};
-
-std::uint32_t written_by(std::size_t writer, const Bytes &sheet, std::uint64_t times, Bytes &buffer) {
-    return writers[writer](sheet.data(), sheet.size(), times, buffer.data(), buffer.size());
-}
-
-// What is written of an accepted sheet's table is that sheet.
-void agree(const Bytes &sheet, std::size_t length) {
-    Bytes before(length);
-    for (std::size_t k = 0; k < length; ++k)
-        before[k] = static_cast<std::uint8_t>(k % 251 + 3);
-    Bytes right = before;
-    if (sheet.size() <= length)
-        std::copy(sheet.begin(), sheet.end(), right.begin());
-    for (std::size_t k = 0; k < writer_count; ++k) {
-        Bytes buffer = before;
-        if (written_by(k, sheet, 0, buffer) != 0 || buffer != before)
-            std::abort();
-        if (written_by(k, sheet, 1, buffer) != (sheet.size() <= length ? 0u : 43u) || buffer != right)
-            std::abort();
-    }
-}
-
-// Nanoseconds a write: those of many writes in one call, less those of none. Least as above.
-void time_writes(const Bytes &sheet, Bytes &buffer, double (&least)[writer_count]) {
-    double none[writer_count];
-    std::fill(least, least + writer_count, 1e18);
-    std::fill(none, none + writer_count, 1e18);
-    for (int round = 0; round < rounds; ++round)
-        for (std::size_t k = 0; k < writer_count; ++k) {
-            least[k] = std::min(least[k], nanoseconds([&] { written_by(k, sheet, repeats, buffer); }));
-            none[k] = std::min(none[k], nanoseconds([&] { written_by(k, sheet, 0, buffer); }));
-        }
-    for (std::size_t k = 0; k < writer_count; ++k)
-        least[k] = (least[k] - none[k]) / repeats;
-}
-
-void measure_writes(const Row &row, std::size_t length) {
-    agree(row.sheet, length);
-    agree(row.sheet, row.sheet.size() - 1);
-    double ns[writer_count];
-    Bytes buffer(length);
-    time_writes(row.sheet, buffer, ns);
-    std::printf("%-39s%5zu |%8.0f%8.0f%8.0f |%8.2f%8.2f\n", row.what, row.sheet.size(), ns[0], ns[1], ns[2],
-                ns[0] / ns[1], ns[0] / ns[2]);
-}
-
-template <std::size_t size>
-void writing(const Row (&rows)[size]) {
-    std::printf(
-        "Nanoseconds to write one table, whose soundness is tested first: those of a call that writes it %d times,\n"
-        "less those of a call that writes it never, divided by %d; each the least of %d rounds.\n"
-        "  bytes      length of the sheet\n"
-        "  archive    the library's writer, in an archive of its own (crates/written_times)\n"
-        "  -O2, -O3   plain C++ that writes the same (reference.cpp), compiled so\n"
-        "  /-O2 ..    how many times the time of plain C++ the archive takes\n",
-        repeats, repeats, rounds);
-    const char *const columns = "bytes | archive     -O2     -O3 |    /-O2    /-O3";
-    std::printf("%-39s%s\n", "Into the bytes of the longest sheet", columns);
-    for (const Row &row : rows)
-        measure_writes(row, mollavisce::longest_sheet);
-    std::printf("%-39s%s\n", "Into as many bytes as the sheet has", columns);
-    for (const Row &row : rows)
-        measure_writes(row, row.sheet.size());
-}
-
-#endif
-
 } // namespace
 
 int main() {
@@ -275,10 +193,5 @@ int main() {
     }
     std::printf("Bytes of stack, the most over the accepted sheets: route 0 %zu, route 1 %zu, -O2 %zu, -O3 %zu\n",
                 stack[0], stack[1], stack[2], stack[3]);
-#ifdef WRITTEN_TIMES
-    writing(rows);
-#else
-    std::printf("The time to write a table is left out: this was built without libwritten_times.a.\n");
-#endif
     return stack[0] <= 12000 && stack[1] <= 12000 ? 0 : 1;
 }

@@ -240,7 +240,7 @@ unsigned below(unsigned bound) { return static_cast<unsigned>(source() % bound);
 
 Bytes written(const reference::Table &table) {
     Bytes sheet(longest_sheet);
-    sheet.resize(reference::write(table, sheet.data(), sheet.size()).value);
+    sheet.resize(reference::write(table, sheet.data(), sheet.size()));
     return sheet;
 }
 

@@ -102,7 +102,7 @@ std::uint8_t *put(std::uint8_t *at, std::uint32_t value) {
     return at;
 }
 
-// The sheet of a sound table; its length.
+// Into at least longest_sheet bytes; the sheet's length.
 std::size_t put_sheet(const Table &table, std::uint8_t *sheet) {
     std::uint32_t phasers = 0, tasks = 0;
     for (bool open : table.open)
@@ -132,6 +132,141 @@ std::size_t put_sheet(const Table &table, std::uint8_t *sheet) {
     return static_cast<std::size_t>(at - sheet);
 }
 
+// Tests that several rows begin with: a refusal, or 0 where all are passed.
+
+std::uint32_t running(const Table &table, std::uint64_t task) {
+    if (task > 31 || table.task[task].state == State::free)
+        return 10;
+    return table.task[task].state == State::blocked ? 12 : 0;
+}
+
+std::uint32_t opened(const Table &table, std::uint64_t phaser) { return phaser > 15 || !table.open[phaser] ? 11 : 0; }
+
+std::uint32_t running_at(const Table &table, std::uint64_t task, std::uint64_t phaser) {
+    const std::uint32_t refusal = running(table, task);
+    return refusal != 0 ? refusal : opened(table, phaser);
+}
+
+std::uint32_t member(const Table &table, std::uint64_t task, std::uint64_t phaser) {
+    if (const std::uint32_t refusal = running_at(table, task, phaser))
+        return refusal;
+    return table.member[task][phaser] ? 0 : 13;
+}
+
+bool reached(const Table &table, std::uint64_t phaser, std::uint64_t phase) {
+    for (std::uint32_t k = 0; k < 32; ++k)
+        if (table.member[k][phaser] && table.phase[k][phaser] < phase)
+            return false;
+    return true;
+}
+
+// The rows, in document 01's order
+
+Called open_task(Table &table) {
+    for (std::uint32_t k = 0; k < 32; ++k)
+        if (table.task[k].state == State::free) {
+            table.task[k].state = State::running;
+            return {0, k};
+        }
+    return {16, 0};
+}
+
+Called end_task(Table &table, std::uint64_t task) {
+    if (const std::uint32_t refusal = running(table, task))
+        return {refusal, 0};
+    table.task[task].state = State::free;
+    for (std::uint32_t p = 0; p < 16; ++p) {
+        table.member[task][p] = false;
+        table.phase[task][p] = 0;
+    }
+    return {0, 0};
+}
+
+Called open_phaser(Table &table, std::uint64_t task) {
+    if (const std::uint32_t refusal = running(table, task))
+        return {refusal, 0};
+    for (std::uint32_t p = 0; p < 16; ++p)
+        if (!table.open[p]) {
+            table.open[p] = table.member[task][p] = true;
+            table.phase[task][p] = 0;
+            return {0, p};
+        }
+    return {16, 0};
+}
+
+Called close_phaser(Table &table, std::uint64_t phaser) {
+    if (const std::uint32_t refusal = opened(table, phaser))
+        return {refusal, 0};
+    for (std::uint32_t k = 0; k < 32; ++k)
+        if (table.member[k][phaser] || (table.task[k].state == State::blocked && table.task[k].phaser == phaser))
+            return {19, 0};
+    table.open[phaser] = false;
+    return {0, 0};
+}
+
+Called admit(Table &table, std::uint64_t task, std::uint64_t phaser, std::uint64_t target) {
+    if (const std::uint32_t refusal = member(table, task, phaser))
+        return {refusal, 0};
+    if (target > 31 || table.task[target].state == State::free)
+        return {10, 0};
+    if (table.task[target].state == State::blocked)
+        return {20, 0};
+    if (table.member[target][phaser])
+        return {14, 0};
+    table.member[target][phaser] = true;
+    return {0, table.phase[target][phaser] = table.phase[task][phaser]};
+}
+
+Called leave(Table &table, std::uint64_t task, std::uint64_t phaser) {
+    if (const std::uint32_t refusal = member(table, task, phaser))
+        return {refusal, 0};
+    table.member[task][phaser] = false;
+    table.phase[task][phaser] = 0;
+    return {0, 0};
+}
+
+Called arrive(Table &table, std::uint64_t task, std::uint64_t phaser) {
+    if (const std::uint32_t refusal = member(table, task, phaser))
+        return {refusal, 0};
+    if (table.phase[task][phaser] == largest_phase)
+        return {15, 0};
+    return {0, ++table.phase[task][phaser]};
+}
+
+// A wait whose tests are passed.
+Called wait_for(Table &table, std::uint64_t task, std::uint64_t phaser, std::uint64_t phase) {
+    if (reached(table, phaser, phase))
+        return {1, 0};
+    table.task[task] = {State::blocked, static_cast<std::uint32_t>(phaser), static_cast<std::uint32_t>(phase)};
+    return {2, 0};
+}
+
+Called wait(Table &table, std::uint64_t task, std::uint64_t phaser) {
+    if (const std::uint32_t refusal = member(table, task, phaser))
+        return {refusal, 0};
+    return wait_for(table, task, phaser, table.phase[task][phaser]);
+}
+
+Called wait_at(Table &table, std::uint64_t task, std::uint64_t phaser, std::uint64_t phase) {
+    if (const std::uint32_t refusal = running_at(table, task, phaser))
+        return {refusal, 0};
+    if (phase > largest_phase)
+        return {15, 0};
+    return wait_for(table, task, phaser, phase);
+}
+
+Called release(Table &table, std::uint64_t number) {
+    if (number > 31 || table.task[number].state == State::free)
+        return {10, 0};
+    Task &task = table.task[number];
+    if (task.state != State::blocked)
+        return {17, 0};
+    if (!reached(table, task.phaser, task.phase))
+        return {18, 0};
+    task.state = State::running;
+    return {0, 0};
+}
+
 std::uint32_t lowest(std::uint32_t set) { return static_cast<std::uint32_t>(__builtin_ctz(set)); }
 
 } // namespace
@@ -141,34 +276,62 @@ std::uint32_t read(const std::uint8_t *sheet, std::size_t length, Table &table) 
     return reader.sheet(table) ? 0 : reader.refusal;
 }
 
-bool sound(const Table &table) {
-    for (std::uint32_t k = 0; k < 32; ++k) {
-        const Task &task = table.task[k];
-        if (task.state == State::blocked &&
-            (task.phaser > 15 || !table.open[task.phaser] || task.phase > largest_phase))
-            return false;
-        for (std::uint32_t p = 0; p < 16; ++p) {
-            if (!table.member[k][p] && table.phase[k][p] != 0)
-                return false;
-            if (table.member[k][p] &&
-                (task.state == State::free || !table.open[p] || table.phase[k][p] > largest_phase))
-                return false;
-        }
-    }
-    return true;
-}
-
-// Into an array of its own first, since only its end tells whether the sheet fits. Never inlined: a loop of writes of
-// one table might else test it once for all of them.
-[[gnu::noinline]] Written write(const Table &table, std::uint8_t *buffer, std::size_t length) {
-    if (!sound(table))
-        return {44, 0};
-    std::uint8_t sheet[longest_sheet];
+std::size_t write(const Table &table, std::uint8_t *buffer, std::size_t length) {
+    if (length >= longest_sheet)
+        return put_sheet(table, buffer);
+    std::uint8_t sheet[longest_sheet]; // only a sheet's end tells whether it fits
     const std::size_t written = put_sheet(table, sheet);
     if (length < written)
-        return {43, 0};
+        return 0;
     std::memcpy(buffer, sheet, written);
-    return {0, written};
+    return written;
+}
+
+Called make(Table &table, std::uint64_t kind, std::uint64_t task, std::uint64_t phaser, std::uint64_t other) {
+    switch (kind) {
+    case 0:
+        return open_task(table);
+    case 1:
+        return end_task(table, task);
+    case 2:
+        return open_phaser(table, task);
+    case 3:
+        return close_phaser(table, phaser);
+    case 4:
+        return admit(table, task, phaser, other);
+    case 5:
+        return leave(table, task, phaser);
+    case 6:
+        return arrive(table, task, phaser);
+    case 7:
+        return wait(table, task, phaser);
+    case 8:
+        return wait_at(table, task, phaser, other);
+    case 9:
+        return release(table, task);
+    default:
+        return {42, 0};
+    }
+}
+
+std::uint32_t call(const std::uint8_t *sheet, std::size_t sheet_length, std::uint64_t kind, std::uint64_t task,
+                   std::uint64_t phaser, std::uint64_t other, std::uint64_t, std::uint8_t *next,
+                   std::size_t next_length, std::uint64_t *value, std::uint64_t *length) {
+    *value = *length = 0;
+    if (kind > 9)
+        return 42;
+    Table table;
+    if (const std::uint32_t refusal = read(sheet, sheet_length, table))
+        return refusal;
+    const Called called = make(table, kind, task, phaser, other);
+    if (called.answer >= 10)
+        return called.answer;
+    const std::size_t written = write(table, next, next_length);
+    if (written == 0)
+        return 43;
+    *value = called.value;
+    *length = written;
+    return called.answer;
 }
 
 Verdict judge(const Table &table) {
@@ -228,17 +391,6 @@ std::uint32_t verdict(const std::uint8_t *sheet, std::size_t length, std::uint64
     std::memset(strip + 6, 255, 32);
     std::memcpy(strip + 6, found.ring, found.ring_length);
     return 0;
-}
-
-std::uint32_t written_times(const std::uint8_t *sheet, std::size_t length, std::uint64_t times, std::uint8_t *buffer,
-                            std::size_t buffer_length) {
-    Table table;
-    if (const std::uint32_t refusal = read(sheet, length, table))
-        return refusal;
-    Written written{0, 0};
-    for (; times > 0; --times)
-        written = write(table, buffer, buffer_length);
-    return written.answer;
 }
 
 } // namespace reference

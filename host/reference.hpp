@@ -1,5 +1,5 @@
-// Document 01, and document 02's writer, read a second time, in plain C++ that shares nothing with the library: to
-// compare answers and times with.
+// Document 01 read a second time, with document 02's sheet of a table, in plain C++ that shares nothing with the
+// library: to compare answers, bytes and times with.
 #pragma once
 
 #include <cstddef>
@@ -31,17 +31,22 @@ struct Verdict {
 // Reads into a fresh table. 0, or a refusal from 30 to 36, after which the table is not to be used.
 std::uint32_t read(const std::uint8_t *sheet, std::size_t length, Table &table);
 
-// Document 01's "A table is sound when ..": what no table that was read can break, and one made by hand can.
-bool sound(const Table &table);
+// A table's sheet at the start of a buffer: its length, or 0 and no byte moved if the buffer is shorter.
+std::size_t write(const Table &table, std::uint8_t *buffer, std::size_t length);
 
-struct Written {
+struct Called {
     std::uint32_t answer;
-    std::size_t value;
+    std::uint64_t value;
 };
 
-// A sound table's sheet at the start of a buffer, and its length. 44 if the table is not sound, then 43 if the buffer
-// is shorter than the sheet; either has the value 0 and moves no byte.
-Written write(const Table &table, std::uint8_t *buffer, std::size_t length);
+// One of the ten calls, by its row of document 01: 42, the row's tests, its effect on the table. From 10 up the table
+// is as before. The table is sound, as each that was read is, so 44 is not tested.
+Called make(Table &table, std::uint64_t kind, std::uint64_t task, std::uint64_t phaser, std::uint64_t other);
+
+// What sheet_call should do.
+std::uint32_t call(const std::uint8_t *sheet, std::size_t sheet_length, std::uint64_t kind, std::uint64_t task,
+                   std::uint64_t phaser, std::uint64_t other, std::uint64_t sort, std::uint8_t *next,
+                   std::size_t next_length, std::uint64_t *value, std::uint64_t *length);
 
 // The named tasks by the definition, and the ring.
 Verdict judge(const Table &table);
@@ -49,9 +54,5 @@ Verdict judge(const Table &table);
 // What sheet_verdict should do.
 std::uint32_t verdict(const std::uint8_t *sheet, std::size_t length, std::uint64_t route, std::uint8_t *strip,
                       std::size_t strip_length);
-
-// Writes a sheet's table so many times into one buffer: the last write's answer, 0 of none, or the sheet's refusal.
-std::uint32_t written_times(const std::uint8_t *sheet, std::size_t length, std::uint64_t times, std::uint8_t *buffer,
-                            std::size_t buffer_length);
 
 } // namespace reference
