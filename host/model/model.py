@@ -2,13 +2,15 @@
 """Document 01, and document 02's writer, in plain Python: a model that shares nothing with the library, for outputs to compare with.
 `host/run` runs all of it.
 
-  model.py test                  the bench cases, the judge against every set of tasks, the writer against the reader
+  model.py test                  the bench cases, the judge against every set of tasks, the writer against the reader, series of calls
   model.py odd-numbers           calls, with answers and values: what `oddnumbers` must print
   model.py sheets                damaged sheets, with verdicts: what `damaged_sheets` must print
   model.py written               tables, written into buffers of several lengths: what `written_sheets` must print
   model.py vectors SEED COUNT    random and damaged sheets: sheet, answer and strip, in hex (for `check -`)
+  model.py calls SEED COUNT      series of calls on sheets: `call`, sheet, kind, task, phaser, other, sort, the buffer's length; answer,
+                                 value, length and next sheet (for `check -`; bytes in hex, none as `-`)
 
-Sections stand in document 01's order, with the writer after the sheet, and quoted words are the documents' own.
+Sections stand in document 01's order, with the writer and the entries after the sheet, and quoted words are the documents' own.
 """
 import itertools
 import random
@@ -348,6 +350,20 @@ def write(t, buffer):
         return refusal.args[0], 0, buffer
 
 
+def sheet_call(data, kind, task, phaser, other, sort, buffer):
+    """The entry for C++: a call on a sheet's table, and the next table's sheet. Answer, value, its length and the buffer afterwards. 42
+    'before all else', then the sheet, then the call's row, 43 last. `sort` is not looked at."""
+    try:
+        ask(kind < len(KINDS), 42)
+        answer, value, after = call(Sheet(data).table(), kind, task, phaser, other)
+        ask(answer < 10, answer)
+        refusal, length, written = write(after, buffer)
+        ask(refusal == 0, refusal)
+        return answer, value, length, written
+    except Refused as refusal:
+        return refusal.args[0], 0, 0, buffer
+
+
 # ---- Bench cases
 
 
@@ -613,6 +629,75 @@ def vectors(seed, count):
         yield data.hex() or "-", answer, strip.hex()
 
 
+# ---- Series of calls
+
+
+def hopeful(rand, t, kind):
+    """Numbers with which a call of this kind may well be accepted, where there are any; and any number where the kind looks at none."""
+
+    def one_of(*lists):
+        return rand.choice(next((numbers for numbers in lists if numbers), [rand.choice(ODD)]))
+
+    running = [k for k in range(TASKS) if t.state[k] == RUNNING]
+    opened = [p for p in range(PHASERS) if t.opened[p]]
+    task, phaser, other = rand.choice(ODD), rand.choice(ODD), rand.choice(ODD)
+    if kind in (1, 2, 8):
+        task = one_of(running)
+    if kind in (4, 5, 6, 7):
+        task = one_of([k for k in running if any(t.member[k])], running)
+        phaser = one_of([p for p in opened if live(t, task) and t.member[task][p]], opened)
+    if kind == 3:
+        phaser = one_of([p for p in opened if not t.members(p)], opened)
+    if kind == 4:
+        other = one_of([k for k in running if phaser in opened and not t.member[k][phaser]], running)
+    if kind == 8:
+        phaser = one_of(opened)
+        other = one_of([t.phase[k][phaser] for k in t.members(phaser)] if phaser in opened else [], [0]) + rand.randrange(3)
+    if kind == 9:
+        blocked = [k for k in range(TASKS) if t.blocked(k)]
+        task = one_of([k for k in blocked if not any(impedes(t, u, t.state[k]) for u in range(TASKS))], blocked)
+    return task, phaser, other
+
+
+def called_with(rand, t):
+    """Kind, task, phaser, other and sort of a call on a table: hopeful numbers, one in eight with an odd one in some place."""
+    kind = rand.choices(range(10), [5, 1, 2, 1, 12, 2, 9, 2, 3, 6])[0]
+    numbers = [kind, *hopeful(rand, t, kind), rand.choice(ODD)]
+    if rand.random() < 0.125:
+        numbers[rand.randrange(4)] = rand.choice(ODD + [9, 10, 11])
+    return numbers
+
+
+def crowded(rand):
+    """The table with the longest sheet, but that some tasks run, and that these are at other phases."""
+    t = LONGEST.copy()
+    for k in rand.sample(range(TASKS), 8):
+        t.state[k], t.phase[k] = RUNNING, [rand.choice([127, 40000, 65534, 65535]) for _ in range(PHASERS)]
+    return t
+
+
+def calls(seed, count):
+    """Series from the fresh sheet or another table's, each next sheet into the next call. Beside them calls on damaged sheets, and into
+    buffers that are too short or just long enough."""
+    rand, left = random.Random(seed), 0
+    for _ in range(count):
+        if left == 0:
+            start, left = rand.choices([(Table(), 400), (random_table(rand), 100), (crowded(rand), 50)], [6, 10, 1])[0]
+            data = sheet_of(start)
+        left -= 1
+        numbers, given, buffer = called_with(rand, Sheet(data).table()), data, PATTERN
+        if rand.random() < 0.1:
+            given = damaged(rand, data)
+        elif rand.random() < 0.2:
+            reached = sheet_call(data, *numbers, PATTERN)[2] or len(data)
+            buffer = PATTERN[: rand.choice([0, 1, reached - 1, reached, reached + 1])]
+        answer, value, written, after = sheet_call(given, *numbers, buffer)
+        assert after[written:] == buffer[written:]
+        yield "call", given.hex() or "-", *numbers, len(buffer), answer, value, written, after[:written].hex() or "-"
+        if answer < 10 and given == data:
+            data = after[:written]
+
+
 # ---- The model against the documents' own figures, against every set of tasks, and its writer against its reader
 
 
@@ -678,6 +763,35 @@ def test_write(rand):
             assert not sound(t) and write(t, PATTERN) == (44, 0, PATTERN) and write(t, b"") == (44, 0, b"")
     assert write(P4, PATTERN)[:2] == (0, 23) and write(LONGEST, PATTERN)[:2] == (0, 2291) and write(Table(), b"") == (43, 0, b"")
     print(f"model: {len(tables)} tables written and read back, {accepted} damaged sheets that are accepted still, read and written back")
+    test_calls()
+
+
+def test_calls():
+    """P4 by calls, and the order of tests. A series of sheet_calls is the same series of calls."""
+    data = sheet_of(Table())
+    p4 = [(0, 9, 9, 9), (0, 9, 9, 9), (2, 0, 9, 9), (2, 0, 9, 9), (4, 0, 0, 1), (4, 0, 1, 1), (6, 0, 0, 9), (6, 1, 1, 9), (7, 0, 0, 9), (8, 1, 1, 1)]
+    for numbers in p4:
+        answer, _, length, after = sheet_call(data, *numbers, 9, PATTERN)
+        assert answer < 10 and after[length:] == PATTERN[length:]
+        data = after[:length]
+    assert data == sheet_of(P4)
+    for sort in ODD:
+        assert sheet_call(b"\x02", 10, 0, 0, 0, sort, b"") == (42, 0, 0, b"") and sheet_call(b"\x02", 9, 0, 0, 0, sort, b"") == (34, 0, 0, b"")
+        assert sheet_call(data, 9, 0, 0, 0, sort, b"") == (18, 0, 0, b"") and sheet_call(data, 0, 0, 0, 0, sort, data) == (43, 0, 0, data)
+        assert sheet_call(data, 0, 0, 0, 0, sort, PATTERN[:26]) == (0, 2, 26, data[:4] + b"\x03" + data[5:] + b"\x02\x00\x00")
+    rand, t, seen = random.Random(2), Table(), set()
+    for _ in range(3000):
+        numbers = called_with(rand, t)
+        answer, value, after = call(t, *numbers[:4])
+        data = sheet_of(after)
+        outcome = (answer, value, len(data), data + PATTERN[len(data) :]) if answer < 10 else (answer, 0, 0, PATTERN)
+        assert sheet_call(sheet_of(t), *numbers, PATTERN) == outcome
+        for room in (0, len(data) - 1):
+            assert sheet_call(sheet_of(t), *numbers, PATTERN[:room]) == (43 if answer < 10 else answer, 0, 0, PATTERN[:room])
+        seen.add(answer)
+        t = after if rand.random() < 0.995 else Table()
+    assert seen <= {0, 1, 2, *range(10, 21), 42}
+    print(f"model: 3000 calls in series, on sheets as on tables; {len(seen)} different answers")
 
 
 def main(words):
@@ -686,8 +800,8 @@ def main(words):
     elif words in (["odd-numbers"], ["sheets"], ["written"]):
         for line in {"odd-numbers": odd_numbers, "sheets": sheets, "written": written}[words[0]]():
             print(*line)
-    elif len(words) == 3 and words[0] == "vectors":
-        for line in vectors(int(words[1]), int(words[2])):
+    elif len(words) == 3 and words[0] in ("vectors", "calls"):
+        for line in {"vectors": vectors, "calls": calls}[words[0]](int(words[1]), int(words[2])):
             print(*line)
     else:
         sys.exit(__doc__)
