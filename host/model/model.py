@@ -6,7 +6,7 @@
   model.py odd-numbers           calls, with answers and values: what `oddnumbers` must print
   model.py sheets                damaged sheets, with verdicts: what `damaged_sheets` must print
   model.py written               tables, written into buffers of several lengths: what `written_sheets` must print
-  model.py vectors SEED COUNT    random and damaged sheets: sheet, answer and strip, in hex (for `check -`)
+  model.py vectors SEED COUNT    random and damaged sheets: `verdict`, sheet, answer and strip (for `check -`)
   model.py calls SEED COUNT      series of calls on sheets: `call`, sheet, kind, task, phaser, other, sort, the buffer's length; answer,
                                  value, length and next sheet (for `check -`; bytes in hex, none as `-`)
 
@@ -626,7 +626,7 @@ def vectors(seed, count):
         data = sheet_of(stepping_table(rand) if rand.random() < 0.1 else random_table(rand))
         data = data if rand.random() < 0.3 else damaged(rand, data)
         answer, strip = sheet_verdict(data, rand.randrange(2))
-        yield data.hex() or "-", answer, strip.hex()
+        yield "verdict", data.hex() or "-", answer, strip.hex()
 
 
 # ---- Series of calls
