@@ -1,10 +1,11 @@
-// Links the archive and holds its entry to an independent reading of document 01 (reference.cpp), each call with
+// Links the archive and holds its two entries to an independent reading of document 01 (reference.cpp), each call with
 // every lent buffer between pages that nobody may touch, the sheet on pages that nobody may write.
 //
-//     check        bench sheets, odd arguments, damaged and random sheets
+//     check        bench sheets, odd arguments, damaged and random sheets, every small table, series of calls
 //     check -      the same, and lines from standard input, which a third reading (model/model.py) makes:
 //                      verdict SHEET ANSWER STRIP
-//                  with bytes in hex, none as `-`
+//                      call SHEET KIND TASK PHASER OTHER SORT ROOM ANSWER VALUE LENGTH NEXT
+//                  with bytes in hex, none as `-`; ROOM is the length of the buffer for the next sheet
 #include "check.hpp"
 
 #include <csignal>
@@ -23,8 +24,10 @@ void lines(std::istream &lines) {
     for (std::string word; lines >> word;)
         if (word == "verdict")
             verdict_line(lines);
+        else if (word == "call")
+            call_line(lines);
         else {
-            ask(false, "a line that is not a verdict's");
+            ask(false, "a line that is neither a verdict's nor a call's");
             return;
         }
 }
@@ -36,11 +39,16 @@ int main(int count, char **words) {
     action.sa_handler = fault;
     sigaction(SIGSEGV, &action, nullptr);
     sigaction(SIGBUS, &action, nullptr);
+    std::printf("sheet_verdict\n");
     check_verdicts();
+    std::printf("sheet_call\n");
+    check_calls();
     if (count == 2 && std::strcmp(words[1], "-") == 0) {
         std::ios::sync_with_stdio(false);
-        tell("verdicts from standard input", [] { lines(std::cin); });
+        std::printf("both\n");
+        tell("verdicts and calls from standard input", [] { lines(std::cin); });
     }
+    tell_answers();
     std::printf("%9lu calls, %lu differences\n", calls, differences);
     return differences == 0 ? 0 : 1;
 }

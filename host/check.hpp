@@ -6,9 +6,14 @@
 #include <istream>
 
 void check_verdicts(); // check_verdicts.cpp
+void check_calls();    // check_calls.cpp
 
 // One line of model/model.py, after its first word.
 void verdict_line(std::istream &line);
+void call_line(std::istream &line);
+
+// How often each answer of sheet_call came, and accepted calls of each kind. Every answer that it can give must have.
+void tell_answers();
 
 template <class Trial>
 void tell(const char *what, Trial trial) {
