@@ -27,13 +27,13 @@ use Rattle.sheet.proofs.Numbers.{Bytes}
 use Rattle.sheet.proofs.Theorems.{answers}
 use Rattle.sheet_call.specs.Call.{Handed, handOn, sheetCallOf}
 use Rattle.sheet_call.proofs.HandedOn.{no-kind-handed, fault-handed}
-use Rattle.sheet_call.proofs.Theorems.{HandedOn, refused, short, whole, handed-on, handed-sheet, handed-rest}
+use Rattle.sheet_call.proofs.Theorems.{HandedOn, refused, short, whole, handed-sheet, handed-rest}
 use Rattle.sheet_call.proofs.Theorems.{CalledOn, no-kind, fault, made, called-on, call-stays, call-sheet}
 use Rattle.demands.specs.SheetCalls.{CallOn, NextSheet, SheetCallAnswered}
 use Rattle.demands.proofs.Answers.{call-answered}
 use Rattle.demands.proofs.Moves.{by-rules}
 use Rattle.demands.proofs.OfSheets.{accepted-sound, later, no-answer}
-use Rattle.demands.proofs.SheetSeries.{next-sound, too-short}
+use Rattle.demands.proofs.SheetSeries.{next-sound, step-handed, too-short}
 
 -- 43 is no kind's own: a call on a sound table never answers it
 not-short : (t : Table) → Sound t → (c : Call) → c .kind < kindCount → callOf t c .answer ≡ shortBuffer → ⊥
@@ -90,10 +90,11 @@ module _ (sheet : List ℕ) (bytes : Bytes sheet) (c : Call) (b : List ℕ) wher
   of-table : (t : Table) → Shaped t → Sound t → sheet ≡ sheetOf t → sheetCallOf sheet c b ≡ handOn (callOf t c) b
   of-table t z s q = ap (λ (x : List ℕ). sheetCallOf x c b) q ∙ call-sheet t s z c b
 
+  on-table : (t : Table) → Shaped t → Sound t → sheet ≡ sheetOf t → HandedOn (callOf t c) b (sheetCallOf sheet c b)
+  on-table t z s q = subst (λ (x : List ℕ). HandedOn (callOf t c) b (sheetCallOf x c b)) (sym q) (step-handed t s z c b)
+
   on-short : CallOn sheet c (λ u. length b < length (sheetOf u)) → sheetCallOf sheet c b .answer ≡ shortBuffer
-  on-short x =
-      let o = x .of in
-      subst (λ (h : Handed). h .answer ≡ shortBuffer) (sym (of-table (o .table) (o .shaped) (o .sound) (o .is))) (go (handed-on (callOf (o .table) c) b))
+  on-short x = go (on-table (x .of .table) (x .of .shaped) (x .of .sound) (x .of .is))
     where
       go : {h : Handed} → HandedOn (callOf (x .of .table) c) b h → h .answer ≡ shortBuffer
       go (refused l) = absurd (omega (arith, l, x .accepted))
@@ -101,9 +102,7 @@ module _ (sheet : List ℕ) (bytes : Bytes sheet) (c : Call) (b : List ℕ) wher
       go (whole a l) = absurd (omega (arith, l, x .next))
 
   on-accepted : CallOn sheet c (λ u. length (sheetOf u) ≤ length b) → sheetCallOf sheet c b .answer < 10
-  on-accepted x =
-      let o = x .of in
-      subst (λ (h : Handed). h .answer < 10) (sym (of-table (o .table) (o .shaped) (o .sound) (o .is))) (go (handed-on (callOf (o .table) c) b))
+  on-accepted x = go (on-table (x .of .table) (x .of .shaped) (x .of .sound) (x .of .is))
     where
       go : {h : Handed} → HandedOn (callOf (x .of .table) c) b h → h .answer < 10
       go (refused l) = absurd (omega (arith, l, x .accepted))
@@ -136,7 +135,7 @@ module _ (sheet : List ℕ) (bytes : Bytes sheet) (c : Call) (b : List ℕ) wher
     call = of-table;
     no-kind = (known-kind (called-on sheet c b), λ l. ap (λ (h : Handed). h .answer) (no-kind-handed sheet c b l));
     fault = λ l n. ap (λ (h : Handed). h .answer) (fault-handed sheet c b l n);
-    own = λ l t z s q. own t s l (handed t z s q);
+    own = λ l t z s q. own t s l (on-table t z s q);
     short = (short-on (called-on sheet c b), on-short);
     accepted = (accepted-on (called-on sheet c b), on-accepted);
     enough = λ room e.
@@ -144,12 +143,9 @@ module _ (sheet : List ℕ) (bytes : Bytes sheet) (c : Call) (b : List ℕ) wher
         too-short (x .of .table) (x .of .sound) (x .of .shaped) c b room (x .next);
     refusal = λ l. let e = call-stays (called-on sheet c b) l in
         (ap (λ (h : Handed). h .value) e, ap (λ (h : Handed). h .length) e, ap (λ (h : Handed). h .next) e);
-    next = λ l t z s q. next-sheet t z s (handed t z s q) l;
+    next = λ l t z s q. next-sheet t z s (on-table t z s q) l;
     rest = rest-on (called-on sheet c b);
   }
-    where
-      handed : (t : Table) → Shaped t → Sound t → sheet ≡ sheetOf t → HandedOn (callOf t c) b (sheetCallOf sheet c b)
-      handed t z s q = subst (HandedOn (callOf t c) b) (sym (of-table t z s q)) (handed-on (callOf t c) b)
 
   -- of a call with the same numbers
   pub sheet-called-by : (d : Call) (h : Handed) → h ≡ sheetCallOf sheet d b → d .kind ≡ c .kind → d .task ≡ c .task → d .phaser ≡ c .phaser
