@@ -21,11 +21,11 @@ use Rattle.sheet.specs.Figures.{longestSheet}
 use Rattle.sheet.specs.Written.{sheetOf}
 use Rattle.sheet.proofs.Examples.{empty}
 use Rattle.sheet.proofs.Theorems.{written-no-longer}
-use Rattle.sheet_call.specs.Call.{Handed}
+use Rattle.sheet_call.specs.Call.{HandedOver}
 use Rattle.sheet_call.proofs.Theorems.{HandedOn, refused, short, whole, handed-on, handed-sheet, call-sheet}
 use Rattle.demands.specs.Demands.{MeansNever, MeansNeverOn}
 use Rattle.demands.specs.Series.{Accepted, Series, after, Contains, Never, release, WayOn}
-use Rattle.demands.specs.Series.{SheetStep, handedBy, kept, SheetSeries, callsOf, sheetAfter, NeverOn, WayOnFrom}
+use Rattle.demands.specs.Series.{SheetStep, handedBy, sheetLeft, SheetSeries, callsOf, sheetAfter, NeverOn, WayOnFrom}
 
 -- ---- one step, on the sheet of a sound table
 module _ (t : Table) (s : Sound t) (z : Shaped t) (c : Call) where
@@ -37,7 +37,7 @@ module _ (t : Table) (s : Sound t) (z : Shaped t) (c : Call) where
 
   -- accepted is the call too, and the sheet that is kept is its next table's
   pub step-kept : (b : List ℕ) → let h = handedBy (sheetOf t) (record { call = c; next = b }) in h .answer < 10
-      → Accepted t c × (kept h ≡ sheetOf (callOf t c .table))
+      → Accepted t c × (sheetLeft h ≡ sheetOf (callOf t c .table))
   step-kept b l = let x = handed-sheet (step-handed b) l in (rw (sym (x .0)) l, x .2)
 
   pub too-short : (b : List ℕ) → longestSheet ≤ length b → length b < length (sheetOf (callOf t c .table)) → ⊥
@@ -47,17 +47,17 @@ module _ (t : Table) (s : Sound t) (z : Shaped t) (c : Call) where
   pub roomy-answer : (b : List ℕ) → longestSheet ≤ length b → handedBy (sheetOf t) (record { call = c; next = b }) .answer ≡ callOf t c .answer
   roomy-answer b room = go (step-handed b)
     where
-      go : {h : Handed} → HandedOn (callOf t c) b h → h .answer ≡ callOf t c .answer
+      go : {h : HandedOver} → HandedOn (callOf t c) b h → h .answer ≡ callOf t c .answer
       go (refused l) = refl
       go (short a l) = absurd (too-short b room l)
       go (whole a l) = refl
 
   -- accepted or refused, a host goes on with the sheet of the table that the call leaves
   pub step-after : (b : List ℕ) → longestSheet ≤ length b → let h = handedBy (sheetOf t) (record { call = c; next = b }) in
-      cond (ltb (h .answer) 10) (kept h) (sheetOf t) ≡ sheetOf (callOf t c .table)
+      cond (ltb (h .answer) 10) (sheetLeft h) (sheetOf t) ≡ sheetOf (callOf t c .table)
   step-after b room = go (step-handed b)
     where
-      go : {h : Handed} → HandedOn (callOf t c) b h → cond (ltb (h .answer) 10) (kept h) (sheetOf t) ≡ sheetOf (callOf t c .table)
+      go : {h : HandedOver} → HandedOn (callOf t c) b h → cond (ltb (h .answer) 10) (sheetLeft h) (sheetOf t) ≡ sheetOf (callOf t c .table)
       go (refused l) = rw (le-ltb (callOf t c .answer) 10 l) (ap (λ (r : Called). sheetOf (r .table)) (sym (call-refused t c l)))
       go (short a l) = absurd (too-short b room l)
       go (whole a l) = rw (lt-ltb (callOf t c .answer) 10 a) (handed-sheet {r = callOf t c} {b = b} (whole a l) a .2)

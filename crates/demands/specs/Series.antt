@@ -13,7 +13,7 @@ use Rattle.hall.specs.Calls.{call, callOf}
 use Rattle.hall.specs.Waiting.{BlockedOn, Impedes}
 use Rattle.hall.specs.declared.calls.Call.{Call}
 use Rattle.hall.specs.declared.table.Table.{Table}
-use Rattle.sheet_call.specs.Call.{Handed, sheetCallOf}
+use Rattle.sheet_call.specs.Call.{HandedOver, sheetCallOf}
 
 -- "A task is named when some totally deadlocked set holds it" (document 01, 'Stuck'). A set of tasks is a number, bit k for task k; a law has the same of any
 -- predicate on tasks in its place
@@ -63,17 +63,17 @@ pub record SheetStep : Type 0 where
   pub call : Call
   pub next : List ℕ
 
-abbrev pub handedBy : List ℕ → SheetStep → Handed
+abbrev pub handedBy : List ℕ → SheetStep → HandedOver
 handedBy sheet s = sheetCallOf sheet (s .call) (s .next)
 
 -- the sheet that an accepted call leaves
-abbrev pub kept : Handed → List ℕ
-kept h = take (h .length) (h .next)
+abbrev pub sheetLeft : HandedOver → List ℕ
+sheetLeft h = take (h .length) (h .next)
 
 -- each is accepted on the sheet that those before it left
 abbrev pub SheetSeries : List ℕ → List SheetStep → Type 0
 SheetSeries sheet [] = Unit {0}
-SheetSeries sheet (s ∷ steps) = (handedBy sheet s .answer < 10) × SheetSeries (kept (handedBy sheet s)) steps
+SheetSeries sheet (s ∷ steps) = (handedBy sheet s .answer < 10) × SheetSeries (sheetLeft (handedBy sheet s)) steps
 
 abbrev pub callsOf : List SheetStep → List Call
 callsOf [] = []
@@ -82,7 +82,7 @@ callsOf (s ∷ steps) = s .call ∷ callsOf steps
 -- the sheet that steps leave, accepted or refused: after a refusal a host goes on with the one that it has
 abbrev pub sheetAfter : List ℕ → List SheetStep → List ℕ
 sheetAfter sheet [] = sheet
-sheetAfter sheet (s ∷ steps) = sheetAfter (cond (ltb (handedBy sheet s .answer) 10) (kept (handedBy sheet s)) sheet) steps
+sheetAfter sheet (s ∷ steps) = sheetAfter (cond (ltb (handedBy sheet s .answer) 10) (sheetLeft (handedBy sheet s)) sheet) steps
 
 -- no series of accepted `sheet_call`s contains a release of task k
 abbrev pub NeverOn : List ℕ → ℕ → Type 0

@@ -16,10 +16,10 @@ use Rattle.hall.specs.declared.table.Table.{Table}
 use Rattle.sheet.specs.Figures.{longestSheet}
 use Rattle.sheet.specs.Reader.{sheetAt}
 use Rattle.sheet.specs.Written.{sheetOf}
-use Rattle.sheet_call.specs.Call.{Handed, handOn, sheetCallOf}
+use Rattle.sheet_call.specs.Call.{HandedOver, handOn, sheetCallOf}
 use Rattle.demands.specs.Demands.{SheetOfSound, OfSheet, CallAnswered}
 use Rattle.demands.specs.Moves.{ByRules}
-use Rattle.demands.specs.Series.{Accepted, kept}
+use Rattle.demands.specs.Series.{Accepted, sheetLeft}
 
 -- the bytes are the sheet of a sound table, on which the call is accepted; and so it is with the next table
 pub record CallOn (sheet : List ℕ) (c : Call) (Next : Table → Type 0) : Type 0 where
@@ -28,18 +28,18 @@ pub record CallOn (sheet : List ℕ) (c : Call) (Next : Table → Type 0) : Type
   pub next : Next (callOf (of .table) c .table)
 
 -- "Calls move the table by that paper's rules": what the host then keeps is the sheet of the table that the call leaves, which is sound
-pub record NextSheet (t : Table) (c : Call) (h : Handed) : Type 0 where
+pub record NextSheet (t : Table) (c : Call) (h : HandedOver) : Type 0 where
   pub called : Called
   pub answered : CallAnswered t c called
   pub moves : ByRules t c called
   pub answer : h .answer ≡ called .answer
   pub value : h .value ≡ called .value
-  pub sheet : kept h ≡ sheetOf (called .table)
+  pub sheet : sheetLeft h ≡ sheetOf (called .table)
   pub shaped : Shaped (called .table)
   pub sound : Sound (called .table)
 
 -- a sheet, a call, the buffer `next` before it, and what was handed over
-pub record SheetCallAnswered (sheet : List ℕ) (c : Call) (before : List ℕ) (h : Handed) : Type 0 where
+pub record SheetCallAnswered (sheet : List ℕ) (c : Call) (before : List ℕ) (h : HandedOver) : Type 0 where
   pub is : h ≡ sheetCallOf sheet c before
   -- for the sheet of a sound table it is exactly the call, with its next table's sheet: so a series of them is a series of calls
   pub call : OfSheet sheet (λ t. h ≡ handOn (callOf t c) before)

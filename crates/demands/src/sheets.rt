@@ -4,7 +4,7 @@ use hall::table::Table;
 use judge::verdict::Verdict;
 use text::text::Text;
 ghost use Rattle.hall.specs.Calls.{call};
-ghost use Rattle.sheet_call.specs.Call.{handed};
+ghost use Rattle.sheet_call.specs.Call.{handsOver};
 ghost use Rattle.demands.specs.Demands.{SheetRead, SheetVerdict, SheetAnswered, SheetPrinted};
 ghost use Rattle.demands.specs.SheetCalls.{SheetCallAnswered};
 
@@ -40,7 +40,7 @@ pub fn sheet_call(
 ) -> u32
     ensures { λ r. ⌜
         SheetCallAnswered (now (sheet .entry)) (call kind task phaser other) (now (next .entry))
-        (handed r (now (value .exit)) (now (length .exit)) (now (next .exit))) ⌝ }
+        (handsOver r (now (value .exit)) (now (length .exit)) (now (next .exit))) ⌝ }
 {
     sheet_call::sheet_call(sheet, kind, task, phaser, other, sort, next, value, length)
 }

@@ -1,2 +1,2 @@
-pub mod HandedOn
+pub mod InOrder
 pub mod Theorems

@@ -22,15 +22,15 @@ use Rattle.sheet.specs.Written.{sheetOf}
 use Rattle.sheet.proofs.Bytes.{sheet-bytes}
 use Rattle.sheet.proofs.Theorems.{accepts}
 use Rattle.writer.specs.Writer.{laidOn}
-use Rattle.sheet_call.specs.Call.{Handed, handed, stays, sent, handOn, sheetCallOf}
-use Rattle.sheet_call.proofs.HandedOn.{no-kind-handed, fault-handed, call-handed, refused-handed}
+use Rattle.sheet_call.specs.Call.{HandedOver, handsOver, stays, sent, handOn, sheetCallOf}
+use Rattle.sheet_call.proofs.InOrder.{no-kind-handed, fault-handed, call-handed, refused-handed}
 
 -- ---- a call that is handed on: its refusal, 43, or its next table's sheet
-pub data HandedOn (r : Called) (b : List ℕ) : Handed → Type 0 where
+pub data HandedOn (r : Called) (b : List ℕ) : HandedOver → Type 0 where
   refused : 10 ≤ r .answer → HandedOn r b (stays (r .answer) b)
   short : r .answer < 10 → length b < length (sheetOf (r .table)) → HandedOn r b (stays shortBuffer b)
   whole : r .answer < 10 → length (sheetOf (r .table)) ≤ length b
-      → HandedOn r b (handed (r .answer) (r .value) (length (sheetOf (r .table))) (laidOn (sheetOf (r .table)) b))
+      → HandedOn r b (handsOver (r .answer) (r .value) (length (sheetOf (r .table))) (laidOn (sheetOf (r .table)) b))
 
 pub handed-on : (r : Called) (b : List ℕ) → HandedOn r b (handOn r b)
 unfolding handOn sent
@@ -38,16 +38,16 @@ handed-on r b = go (ltb (r .answer) 10) refl (ltb (length b) (length (sheetOf (r
   where
     go : (a : Bool) → ltb (r .answer) 10 ≡ a → (l : Bool) → ltb (length b) (length (sheetOf (r .table))) ≡ l
         → HandedOn r b (cond a (cond l (stays shortBuffer b)
-        (handed (r .answer) (r .value) (length (sheetOf (r .table))) (laidOn (sheetOf (r .table)) b))) (stays (r .answer) b))
+        (handsOver (r .answer) (r .value) (length (sheetOf (r .table))) (laidOn (sheetOf (r .table)) b))) (stays (r .answer) b))
     go false a l h = refused (ltb-false _ _ a)
     go true a true h = short (ltb-true _ _ a) (ltb-true _ _ h)
     go true a false h = whole (ltb-true _ _ a) (ltb-false _ _ h)
 
 -- ---- a call on a sheet: 42, the sheet's own refusal, or the call on its table
-pub data CalledOn (sheet : List ℕ) (c : Call) (b : List ℕ) : Handed → Type 0 where
+pub data CalledOn (sheet : List ℕ) (c : Call) (b : List ℕ) : HandedOver → Type 0 where
   no-kind : kindCount ≤ c .kind → CalledOn sheet c b (stays noKind b)
   fault : c .kind < kindCount → (sheetAt sheet .answer ≡ done → ⊥) → CalledOn sheet c b (stays (sheetAt sheet .answer) b)
-  made : {h : Handed} → c .kind < kindCount → sheetAt sheet .answer ≡ done → HandedOn (callOf (sheetAt sheet .table) c) b h → CalledOn sheet c b h
+  made : {h : HandedOver} → c .kind < kindCount → sheetAt sheet .answer ≡ done → HandedOn (callOf (sheetAt sheet .table) c) b h → CalledOn sheet c b h
 
 pub called-on : (sheet : List ℕ) (c : Call) (b : List ℕ) → CalledOn sheet c b (sheetCallOf sheet c b)
 called-on sheet c b = go (decLt (c .kind) kindCount) (ℕ-discrete (sheetAt sheet .answer) done)
@@ -72,30 +72,30 @@ call-sheet t s z c b = go (decLt (c .kind) kindCount)
 
 -- ---- of what is handed over
 -- "From 10 up": value 0, length 0, and no byte moves
-pub handed-stays : {r : Called} {b : List ℕ} {h : Handed} → HandedOn r b h → 10 ≤ h .answer → h ≡ stays (h .answer) b
+pub handed-stays : {r : Called} {b : List ℕ} {h : HandedOver} → HandedOn r b h → 10 ≤ h .answer → h ≡ stays (h .answer) b
 handed-stays (refused l) m = refl
 handed-stays (short a l) m = refl
 handed-stays (whole a l) m = absurd (omega (arith, a, m))
 
-pub call-stays : {sheet : List ℕ} {c : Call} {b : List ℕ} {h : Handed} → CalledOn sheet c b h → 10 ≤ h .answer → h ≡ stays (h .answer) b
+pub call-stays : {sheet : List ℕ} {c : Call} {b : List ℕ} {h : HandedOver} → CalledOn sheet c b h → 10 ≤ h .answer → h ≡ stays (h .answer) b
 call-stays (no-kind l) m = refl
 call-stays (fault l n) m = refl
 call-stays (made l e x) m = handed-stays x m
 
 -- below 10: the next table's sheet, and "the rest of it stays as it was"
-pub handed-sheet : {r : Called} {b : List ℕ} {h : Handed} → HandedOn r b h → h .answer < 10
+pub handed-sheet : {r : Called} {b : List ℕ} {h : HandedOver} → HandedOn r b h → h .answer < 10
     → (h .answer ≡ r .answer) × (h .value ≡ r .value) × (take (h .length) (h .next) ≡ sheetOf (r .table))
 handed-sheet (refused l) m = absurd (omega (arith, l, m))
 handed-sheet (short a l) m = absurd (omega (arith, m))
 handed-sheet (whole a l) m = (refl, refl, take-append-seam _ _)
 
-pub handed-rest : {r : Called} {b : List ℕ} {h : Handed} → HandedOn r b h → drop (h .length) (h .next) ≡ drop (h .length) b
+pub handed-rest : {r : Called} {b : List ℕ} {h : HandedOver} → HandedOn r b h → drop (h .length) (h .next) ≡ drop (h .length) b
 handed-rest (refused l) = refl
 handed-rest (short a l) = refl
 handed-rest {r} {b} (whole a l) = drop-append-seam (sheetOf (r .table)) _
 
 -- the promise allows one answer, and one content of what was lent
 pub handed-one : {answer value length answer′ value′ length′ : ℕ} {next next′ : List ℕ}
-    → handed answer value length next ≡ handed answer′ value′ length′ next′
+    → handsOver answer value length next ≡ handsOver answer′ value′ length′ next′
     → (answer ≡ answer′) × (_≡_ {A = List ℕ × ℕ × ℕ} (next, value, length) (next′, value′, length′))
-handed-one e = (ap (λ (h : Handed). h .answer) e, λ i. (e i .next, e i .value, e i .length))
+handed-one e = (ap (λ (h : HandedOver). h .answer) e, λ i. (e i .next, e i .value, e i .length))

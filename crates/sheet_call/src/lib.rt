@@ -11,7 +11,7 @@ ghost use Prim.Native.Nat.{ℕ};
 ghost use Rattle.hall.specs.Calls.{call};
 ghost use Rattle.hall.specs.Table.{freshTable};
 ghost use Rattle.sheet.specs.Written.{sheetOf};
-ghost use Rattle.sheet_call.specs.Call.{handed, stays, sheetCallOf};
+ghost use Rattle.sheet_call.specs.Call.{handsOver, stays, sheetCallOf};
 
 // The sheet of the fresh table, by which a host begins; the C++ header has these bytes as a constant.
 pub const FRESH_SHEET: [u8; 3] = [1, 0, 0];
@@ -31,7 +31,7 @@ struct SheetCalled {
 }
 
 fn refused(refusal: u32) -> SheetCalled
-    ensures { λ r. ⌜ ((next : List ℕ) → handed (r .answer) (r .value) (r .length) next ≡ stays refusal next) ⌝ }
+    ensures { λ r. ⌜ ((next : List ℕ) → handsOver (r .answer) (r .value) (r .length) next ≡ stays refusal next) ⌝ }
 {
     SheetCalled {
         answer: refusal,
@@ -42,7 +42,7 @@ fn refused(refusal: u32) -> SheetCalled
 
 fn call_on(sheet: &[u8], call: Call, next: &mut [u8]) -> SheetCalled
     ensures { λ r. ⌜
-        handed (r .answer) (r .value) (r .length) (now (next .exit)) ≡ sheetCallOf (now (sheet .entry)) call (now (next .entry)) ⌝ }
+        handsOver (r .answer) (r .value) (r .length) (now (next .exit)) ≡ sheetCallOf (now (sheet .entry)) call (now (next .entry)) ⌝ }
 {
     if call.kind >= KINDS {
         return refused(NO_KIND);
@@ -85,7 +85,7 @@ pub extern "C" fn sheet_call(
     length: &mut u64,
 ) -> u32
     ensures { λ r. ⌜
-        handed r (now (value .exit)) (now (length .exit)) (now (next .exit))
+        handsOver r (now (value .exit)) (now (length .exit)) (now (next .exit))
         ≡ sheetCallOf (now (sheet .entry)) (call kind task phaser other) (now (next .entry)) ⌝ }
 {
     let called = call_on(

@@ -13,8 +13,8 @@ use Rattle.hall.specs.declared.table.Table.{Table}
 use Rattle.sheet.specs.Reader.{Sheet, sheetAt}
 use Rattle.writer.specs.Writer.{wrote}
 use Rattle.sheet_call.specs.Call.{stays, handOn, sent, sheetCallOf}
-use Rattle.sheet_call.proofs.HandedOn.{no-kind-handed, fault-handed, call-handed, next-sound}
-use Rattle.sheet_call.proofs.HandedOn.{refused-handed, accepted-handed, short-sent, whole-sent}
+use Rattle.sheet_call.proofs.InOrder.{no-kind-handed, fault-handed, call-handed, after-sound}
+use Rattle.sheet_call.proofs.InOrder.{refused-handed, accepted-handed, short-sent, whole-sent}
 use Rattle.sheet_call.proofs.call_on.Statement.{statement}
 use Rattle.sheet_call.proofs.call_on.Tie as tie
 
@@ -96,7 +96,7 @@ on-sent c = on-sheet (called c) ∙ accepted-handed (called c .call .result) _ (
 sound : (c : tie.After-write) → soundOf (called c .call .result .table) ≡ true
 sound c =
     ap (λ (r : Called). soundOf (r .table)) (row (called c))
-    ∙ next-sound (made (called c) .args .sheet .now) _ (made (called c) .args .next .now)
+    ∙ after-sound (made (called c) .args .sheet .now) _ (made (called c) .args .next .now)
     (λ i. called c .before .before .before .before .before .before .before .shared-slice-known .given i .fits) (accepted (called c))
 
 returns-4 : tie.Need-returns-4

@@ -19,7 +19,7 @@ use Rattle.sheet.specs.Written.{sheetOf}
 use Rattle.sheet.proofs.Numbers.{Bytes}
 use Rattle.sheet.proofs.Theorems.{accepts}
 use Rattle.writer.specs.Writer.{Wrote, wrote, laidOn, writeOf}
-use Rattle.sheet_call.specs.Call.{handed, stays, sent, handOn, sheetCallOf}
+use Rattle.sheet_call.specs.Call.{handsOver, stays, sent, handOn, sheetCallOf}
 
 -- ---- the tests of `sheet_call` in their order
 module _ (sheet : List ℕ) (c : Call) (next : List ℕ) where
@@ -37,8 +37,8 @@ module _ (sheet : List ℕ) (c : Call) (next : List ℕ) where
   call-handed l e = rw (lt-ltb (c .kind) kindCount l, eq-eqb (sheetAt sheet .answer) done e) refl
 
   -- a table that was read is sound, and so is the next one: the writer never answers 44
-  pub next-sound : Bytes sheet → sheetAt sheet .answer ≡ done → soundOf (callOf (sheetAt sheet .table) c .table) ≡ true
-  next-sound bytes e =
+  pub after-sound : Bytes sheet → sheetAt sheet .answer ≡ done → soundOf (callOf (sheetAt sheet .table) c .table) ≡ true
+  after-sound bytes e =
       let t = sheetAt sheet .table in
       let read = accepts sheet bytes t .0 (e, refl) in
       call-sound t (read .1) (sound-iff t .1 (read .0)) c
@@ -65,16 +65,16 @@ module _ (r : Called) (next : List ℕ) where
     short-sent n = go (ltb (length next) (length (sheetOf (r .table)))) _ _ one-way
       where
         go : (short : Bool) (length : ℕ) (laid : List ℕ) → w ≡ cond short (wrote shortBuffer 0 next) (wrote done length laid)
-            → stays (w .answer) (w .buffer) ≡ cond short (stays shortBuffer next) (handed (r .answer) (r .value) length laid)
+            → stays (w .answer) (w .buffer) ≡ cond short (stays shortBuffer next) (handsOver (r .answer) (r .value) length laid)
         go true length laid e = rw e refl
         go false length laid e = absurd (n (ap (λ (x : Wrote). x .answer) e))
 
-    pub whole-sent : w .answer ≡ done → handed (r .answer) (r .value) (w .value) (w .buffer) ≡ sent r next
+    pub whole-sent : w .answer ≡ done → handsOver (r .answer) (r .value) (w .value) (w .buffer) ≡ sent r next
     unfolding sent
     whole-sent q = go (ltb (length next) (length (sheetOf (r .table)))) _ _ one-way
       where
         go : (short : Bool) (length : ℕ) (laid : List ℕ) → w ≡ cond short (wrote shortBuffer 0 next) (wrote done length laid)
-            → handed (r .answer) (r .value) (w .value) (w .buffer)
-            ≡ cond short (stays shortBuffer next) (handed (r .answer) (r .value) length laid)
+            → handsOver (r .answer) (r .value) (w .value) (w .buffer)
+            ≡ cond short (stays shortBuffer next) (handsOver (r .answer) (r .value) length laid)
         go true length laid e = absurd (omega (arith, ap (λ (x : Wrote). x .answer) e, q))
         go false length laid e = rw e refl
