@@ -34,6 +34,17 @@ void lines(std::istream &lines) {
 
 } // namespace
 
+void damaged_bench(const Trial &trial) {
+    tell("every damage to a byte, cut and added byte of the bench sheets", [&] {
+        for (const Bench &row : bench)
+            each_damage(from_hex(row.sheet), trial);
+    });
+    tell("numbers about every limit in each place of the bench sheets", [&] {
+        for (const Bench &row : bench)
+            each_number(from_hex(row.sheet), trial);
+    });
+}
+
 int main(int count, char **words) {
     struct sigaction action = {};
     action.sa_handler = fault;

@@ -2,11 +2,15 @@
 #pragma once
 
 #include "guarded.hpp"
+#include "sheets.hpp"
 
 #include <istream>
 
 void check_verdicts(); // check_verdicts.cpp
 void check_calls();    // check_calls.cpp
+
+// Document 01's sheets with every damage to a byte, and with numbers about every limit: both entries are tried so.
+void damaged_bench(const Trial &trial);
 
 // One line of model/model.py, after its first word.
 void verdict_line(std::istream &line);

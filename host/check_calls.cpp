@@ -305,14 +305,7 @@ void check_calls() {
             odd(written(random_table()));
         }
     });
-    tell("every damage to a byte, cut and added byte of the bench sheets", [] {
-        for (const Bench &row : bench)
-            each_damage(from_hex(row.sheet), any);
-    });
-    tell("numbers about every limit in each place of the bench sheets", [] {
-        for (const Bench &row : bench)
-            each_number(from_hex(row.sheet), any);
-    });
+    damaged_bench(any);
     tell("random tables up to 32 tasks and 16 phasers, and damaged ones", [] { random_sheets(50000); });
     tell("random bytes", [] {
         for (unsigned count = 100000; count > 0; --count)

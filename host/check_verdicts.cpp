@@ -187,14 +187,7 @@ void verdict_line(std::istream &line) {
 void check_verdicts() {
     tell("bench sheets, as document 01 states them", stated);
     tell("odd routes, strips and pointers", odd);
-    tell("every damage to a byte, cut and added byte of the bench sheets", [] {
-        for (const Bench &row : bench)
-            each_damage(from_hex(row.sheet), both);
-    });
-    tell("numbers about every limit in each place of the bench sheets", [] {
-        for (const Bench &row : bench)
-            each_number(from_hex(row.sheet), both);
-    });
+    damaged_bench(both);
     tell("every input of two bytes, and of three after the version", small);
     tell("random tables up to 32 tasks and 16 phasers, and damaged ones", [] { random_sheets(60000); });
     tell("rings and tails over all 32 tasks", [] { rings(10000); });

@@ -1,14 +1,13 @@
 -- What is handed over for a call on a sheet: demands 1 and 2, of what `sheet_call` promises.
 use mathlib.Core.Path.{_≡_, refl, ap, sym, _∙_, subst}
-use mathlib.Core.Bool.{Bool, true, false, _&&_, _||_}
-use mathlib.Core.List.{List, [], _∷_}
+use mathlib.Core.Bool.{true}
+use mathlib.Core.List.{List, _∷_}
 use Prim.Native.Nat.{ℕ, _<_, _≤_}
 use native.Mathlib.Omega.{arith}
-use lib.Dec.{T, eqb, leb}
+use lib.Dec.{eqb}
 use lib.ListN.{length, drop}
-use borrow.Author.Tests.{eqb-true, leb-true, ne-eqb}
-use Rattle.answers.specs.Answers.{done, noKind, shortBuffer, among}
-use Rattle.states.proofs.Truth.{clash, and-left, and-right}
+use Rattle.answers.specs.Answers.{noKind, shortBuffer, among}
+use Rattle.states.proofs.Truth.{clash}
 use Rattle.hall.specs.Answers.{answersOf}
 use Rattle.hall.specs.Calls.{kindCount, callOf}
 use Rattle.hall.specs.Every.{every}
@@ -20,11 +19,9 @@ use Rattle.hall.proofs.Answered.{apart, sound-answers, no-kind-iff}
 use Rattle.hall.proofs.Kept.{call-shaped}
 use Rattle.hall.proofs.One.{same-call}
 use Rattle.hall.proofs.Soundness.{sound-iff}
-use Rattle.sheet.specs.Answers.{sheetRefusals}
-use Rattle.sheet.specs.Reader.{sheetAt}
 use Rattle.sheet.specs.Written.{sheetOf}
 use Rattle.sheet.proofs.Numbers.{Bytes}
-use Rattle.sheet.proofs.Theorems.{answers}
+use Rattle.sheet.proofs.Theorems.{refusal-high}
 use Rattle.sheet_call.specs.Call.{HandedOver, handOn, sheetCallOf}
 use Rattle.sheet_call.proofs.InOrder.{no-kind-handed, fault-handed}
 use Rattle.sheet_call.proofs.Theorems.{HandedOn, refused, short, whole, handed-sheet, handed-rest}
@@ -40,24 +37,6 @@ not-short : (t : Table) → Sound t → (c : Call) → c .kind < kindCount → c
 unfolding every
 not-short t s c l e =
     clash (ap (λ (n : ℕ). among n (answersOf (c .kind))) (sym e) ∙ sound-answers t c l (sound-iff t .1 s)) (apart shortBuffer refl (c .kind) l)
-
--- the sheet's refusals are 10 or more, as all are
-high : List ℕ → Bool
-high [] = true
-high (x ∷ l) = leb 10 x && high l
-
-among-high : (n : ℕ) (l : List ℕ) → high l ≡ true → T (among n l) → 10 ≤ n
-unfolding high
-among-high n (x ∷ l) e h = go (eqb n x) refl h (among-high n l (and-right (leb 10 x) (high l) e))
-  where
-    go : (b : Bool) → eqb n x ≡ b → T (b || among n l) → (T (among n l) → 10 ≤ n) → 10 ≤ n
-    go true q m more = omega (arith, eqb-true n x q, leb-true 10 x (and-left (leb 10 x) (high l) e))
-    go false q m more = more m
-
-fault-high : (sheet : List ℕ) → Bytes sheet → (sheetAt sheet .answer ≡ done → ⊥) → 10 ≤ sheetAt sheet .answer
-unfolding high
-fault-high sheet bytes n =
-    among-high (sheetAt sheet .answer) sheetRefusals refl (rw (ne-eqb (sheetAt sheet .answer) done n) at (answers sheet bytes))
 
 module _ (sheet : List ℕ) (bytes : Bytes sheet) (c : Call) (b : List ℕ) where
   known-kind : {h : HandedOver} → CalledOn sheet c b h → h .answer ≡ noKind → kindCount ≤ c .kind
@@ -76,7 +55,7 @@ module _ (sheet : List ℕ) (bytes : Bytes sheet) (c : Call) (b : List ℕ) wher
 
   accepted-on : {h : HandedOver} → CalledOn sheet c b h → h .answer < 10 → CallOn sheet c (λ u. length (sheetOf u) ≤ length b)
   accepted-on (no-kind l) e = absurd (omega (arith, e))
-  accepted-on (fault l n) e = absurd (omega (arith, e, fault-high sheet bytes n))
+  accepted-on (fault l n) e = absurd (omega (arith, e, refusal-high sheet bytes n))
   accepted-on (made l d (refused m)) e = absurd (omega (arith, e, m))
   accepted-on (made l d (short a m)) e = absurd (omega (arith, e))
   accepted-on (made l d (whole a m)) e = record { of = accepted-sound sheet bytes d; accepted = a; next = m }

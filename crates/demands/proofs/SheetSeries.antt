@@ -14,7 +14,7 @@ use Rattle.hall.specs.Table.{Shaped, freshTable}
 use Rattle.hall.specs.declared.calls.Call.{Call}
 use Rattle.hall.specs.declared.calls.Called.{Called}
 use Rattle.hall.specs.declared.table.Table.{Table}
-use Rattle.hall.proofs.Kept.{call-refused, call-shaped, call-sound}
+use Rattle.hall.proofs.Kept.{call-refused, call-shaped}
 use Rattle.hall.proofs.Soundness.{sound-iff, fresh-sound, fresh-shaped}
 use Rattle.judge.specs.declared.verdict.Verdict.{Verdict}
 use Rattle.sheet.specs.Figures.{longestSheet}
@@ -25,12 +25,13 @@ use Rattle.sheet_call.specs.Call.{HandedOver}
 use Rattle.sheet_call.proofs.Theorems.{HandedOn, refused, short, whole, handed-on, handed-sheet, call-sheet}
 use Rattle.demands.specs.Demands.{MeansNever, MeansNeverOn}
 use Rattle.demands.specs.Series.{Accepted, Series, after, Contains, Never, release, WayOn}
-use Rattle.demands.specs.Series.{SheetStep, handedBy, sheetLeft, SheetSeries, callsOf, sheetAfter, NeverOn, WayOnFrom}
+use Rattle.demands.specs.Series.{SheetStep, handedBy, sheetLeft, SheetSeries, callsOf, NeverOn, WayOnFrom}
+use Rattle.demands.proofs.Answers.{call-answered}
 
 -- ---- one step, on the sheet of a sound table
 module _ (t : Table) (s : Sound t) (z : Shaped t) (c : Call) where
   pub next-sound : Sound (callOf t c .table)
-  next-sound = sound-iff _ .0 (call-sound t z (sound-iff t .1 s) c)
+  next-sound = call-answered t z c .sound s
 
   pub step-handed : (b : List ℕ) → HandedOn (callOf t c) b (handedBy (sheetOf t) (record { call = c; next = b }))
   step-handed b = subst (HandedOn (callOf t c) b) (sym (call-sheet t s z c b)) (handed-on (callOf t c) b)
@@ -87,7 +88,13 @@ series-made t s z (c ∷ calls) x =
     let rest = series-made (callOf t c .table) (next-sound t s z c) (call-shaped t z c) calls (x .1) in
     (l, subst (λ (k : List ℕ). SheetSeries k (roomies calls)) (sym (step-kept t s z c b l .1)) rest)
 
--- accepted or refused, with room for any sheet each time
+-- ---- accepted or refused
+-- the sheet that steps leave: after a refusal a host goes on with the one that it has
+abbrev pub sheetAfter : List ℕ → List SheetStep → List ℕ
+sheetAfter sheet [] = sheet
+sheetAfter sheet (s ∷ steps) = sheetAfter (cond (ltb (handedBy sheet s .answer) 10) (sheetLeft (handedBy sheet s)) sheet) steps
+
+-- with room for any sheet each time
 abbrev pub Roomy : List SheetStep → Type 0
 Roomy [] = Unit {0}
 Roomy (p ∷ steps) = (longestSheet ≤ length (p .next)) × Roomy steps

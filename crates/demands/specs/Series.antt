@@ -2,10 +2,8 @@
 -- accepted release of it."
 use mathlib.Core.Path.{_≡_}
 use mathlib.Core.Logic.{_⊎_}
-use mathlib.Core.Bool.{cond}
 use mathlib.Core.List.{List, [], _∷_, _++_}
 use Prim.Native.Nat.{ℕ, _<_}
-use lib.Dec.{ltb}
 use lib.ListN.{take}
 use Rattle.sets.specs.Set.{Has}
 use Rattle.deadlock.specs.Waiting.{TotallyDeadlocked}
@@ -78,11 +76,6 @@ SheetSeries sheet (s ∷ steps) = (handedBy sheet s .answer < 10) × SheetSeries
 abbrev pub callsOf : List SheetStep → List Call
 callsOf [] = []
 callsOf (s ∷ steps) = s .call ∷ callsOf steps
-
--- the sheet that steps leave, accepted or refused: after a refusal a host goes on with the one that it has
-abbrev pub sheetAfter : List ℕ → List SheetStep → List ℕ
-sheetAfter sheet [] = sheet
-sheetAfter sheet (s ∷ steps) = sheetAfter (cond (ltb (handedBy sheet s .answer) 10) (sheetLeft (handedBy sheet s)) sheet) steps
 
 -- no series of accepted `sheet_call`s contains a release of task k
 abbrev pub NeverOn : List ℕ → ℕ → Type 0

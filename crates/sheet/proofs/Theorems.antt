@@ -2,18 +2,20 @@
 use Prim.Native.Nat.{ℕ, _≤_}
 use mathlib.Core.Path.{_≡_, refl, sym, ap, _∙_}
 use mathlib.Core.Logic.{_↔_}
-use mathlib.Core.List.{List}
+use mathlib.Core.Bool.{Bool, true, false, _&&_, _||_}
+use mathlib.Core.List.{List, [], _∷_}
 use native.Mathlib.Omega.{arith}
-use lib.Dec.{T}
+use lib.Dec.{T, eqb, leb}
 use lib.ListN.{length, take}
-use borrow.Author.Tests.{ne-eqb}
+use borrow.Author.Tests.{eqb-true, leb-true, ne-eqb}
 use Rattle.answers.specs.Answers.{among}
+use Rattle.states.proofs.Truth.{and-left, and-right}
 use Rattle.hall.specs.Table.{Shaped, freshTable}
 use Rattle.hall.specs.Sound.{Sound}
 use Rattle.hall.specs.declared.table.Table.{Table}
 use Rattle.sheet.specs.declared.number.Number.{Number}
 use Rattle.sheet.specs.declared.number.Number.the-variants.{Value, Refused}
-use Rattle.sheet.specs.Answers.{sheetAnswers}
+use Rattle.sheet.specs.Answers.{sheetRefusals, sheetAnswers}
 use Rattle.sheet.specs.Figures.{longestSheet, settlingBytes}
 use Rattle.sheet.specs.Got.{Got, value, refused}
 use Rattle.sheet.specs.Number.{outcome}
@@ -83,6 +85,23 @@ answers s b = go (accepted s b)
     go : {Q : Table → ℕ → Type 0} {g h : Got Table} → Same Q g h → T (among (handed g .answer) sheetAnswers)
     go (fine q) = tt
     go (none {n} r) = rw (ne-eqb n 0 (λ e. absurd (rw e at r))) r
+
+-- so its refusals are 10 or more, as all are
+high : List ℕ → Bool
+high [] = true
+high (x ∷ l) = leb 10 x && high l
+
+among-high : (n : ℕ) (l : List ℕ) → high l ≡ true → T (among n l) → 10 ≤ n
+unfolding high
+among-high n (x ∷ l) e h = go (eqb n x) refl h (among-high n l (and-right (leb 10 x) (high l) e))
+  where
+    go : (b : Bool) → eqb n x ≡ b → T (b || among n l) → (T (among n l) → 10 ≤ n) → 10 ≤ n
+    go true q m more = omega (arith, eqb-true n x q, leb-true 10 x (and-left (leb 10 x) (high l) e))
+    go false q m more = more m
+
+pub refusal-high : (s : List ℕ) → Bytes s → ¬ (sheetAt s .answer ≡ 0) → 10 ≤ sheetAt s .answer
+unfolding high
+refusal-high s b h = among-high (sheetAt s .answer) sheetRefusals refl (rw (ne-eqb (sheetAt s .answer) 0 h) at (answers s b))
 
 -- no sheet is shorter than the fewest bytes that get its answer; that so few do get it is `refusals` of Examples, and for 0 `empty`
 pub none-shorter : (s : List ℕ) → fewest (sheetAt s .answer) ≤ length s

@@ -1,10 +1,9 @@
 -- What `sheet_call` hands over, test by test: of the sheet, of the call's answer, and of what the writer made of its next table.
-use mathlib.Core.Path.{_≡_, refl, ap}
+use mathlib.Core.Path.{_≡_, refl}
 use mathlib.Core.Bool.{Bool, true, false, cond}
 use mathlib.Core.List.{List}
 use Prim.Native.Nat.{ℕ, _≤_, _<_}
-use native.Mathlib.Omega.{arith}
-use lib.Dec.{ltb}
+use lib.Dec.{eqb, ltb}
 use lib.ListN.{length}
 use borrow.Author.Tests.{eq-eqb, ne-eqb, lt-ltb, le-ltb}
 use Rattle.answers.specs.Answers.{done, noKind, shortBuffer}
@@ -60,21 +59,19 @@ module _ (r : Called) (next : List ℕ) where
     unfolding writeOf
     one-way = rw sound at is
 
-    pub short-sent : (w .answer ≡ done → ⊥) → stays (w .answer) (w .buffer) ≡ sent r next
+    written-sent : sent r next
+        ≡ cond (eqb (w .answer) done) (handsOver (r .answer) (r .value) (w .value) (w .buffer)) (stays (w .answer) (w .buffer))
     unfolding sent
-    short-sent n = go (ltb (length next) (length (sheetOf (r .table)))) _ _ one-way
+    written-sent = go (ltb (length next) (length (sheetOf (r .table)))) _ _ one-way
       where
         go : (short : Bool) (length : ℕ) (laid : List ℕ) → w ≡ cond short (wrote shortBuffer 0 next) (wrote done length laid)
-            → stays (w .answer) (w .buffer) ≡ cond short (stays shortBuffer next) (handsOver (r .answer) (r .value) length laid)
+            → cond short (stays shortBuffer next) (handsOver (r .answer) (r .value) length laid)
+            ≡ cond (eqb (w .answer) done) (handsOver (r .answer) (r .value) (w .value) (w .buffer)) (stays (w .answer) (w .buffer))
         go true length laid e = rw e refl
-        go false length laid e = absurd (n (ap (λ (x : Wrote). x .answer) e))
-
-    pub whole-sent : w .answer ≡ done → handsOver (r .answer) (r .value) (w .value) (w .buffer) ≡ sent r next
-    unfolding sent
-    whole-sent q = go (ltb (length next) (length (sheetOf (r .table)))) _ _ one-way
-      where
-        go : (short : Bool) (length : ℕ) (laid : List ℕ) → w ≡ cond short (wrote shortBuffer 0 next) (wrote done length laid)
-            → handsOver (r .answer) (r .value) (w .value) (w .buffer)
-            ≡ cond short (stays shortBuffer next) (handsOver (r .answer) (r .value) length laid)
-        go true length laid e = absurd (omega (arith, ap (λ (x : Wrote). x .answer) e, q))
         go false length laid e = rw e refl
+
+    pub short-sent : (w .answer ≡ done → ⊥) → sent r next ≡ stays (w .answer) (w .buffer)
+    short-sent n = rw (ne-eqb (w .answer) done n) at written-sent
+
+    pub whole-sent : w .answer ≡ done → sent r next ≡ handsOver (r .answer) (r .value) (w .value) (w .buffer)
+    whole-sent q = rw (eq-eqb (w .answer) done q) at written-sent

@@ -40,6 +40,7 @@ fn refused(refusal: u32) -> SheetCalled
     }
 }
 
+// The call on a sheet's table, and the sheet of the table that it leaves.
 fn call_on(sheet: &[u8], call: Call, next: &mut [u8]) -> SheetCalled
     ensures { λ r. ⌜
         handsOver (r .answer) (r .value) (r .length) (now (next .exit)) ≡ sheetCallOf (now (sheet .entry)) call (now (next .entry)) ⌝ }

@@ -103,9 +103,9 @@ returns-4 : tie.Need-returns-4
 returns-4 c =
     let write = c .before .before .before .before in
     c .refused4 .ensures _
+    ∙ sym (on-sent write
     ∙ short-sent (called write .call .result) _ (sound write) (wrote (write .write .result .answer) _ _) (write .write .ensures)
-    (λ e. omega (arith, e, c .before .if4 .taken))
-    ∙ sym (on-sent write)
+    (λ e. omega (arith, e, c .before .if4 .taken)))
 
 same-length-2 : tie.Need-same-length-2
 same-length-2 c = search needs
@@ -113,9 +113,9 @@ same-length-2 c = search needs
 returns-5 : tie.Need-returns-5
 returns-5 c =
     let write = c .before .before .before in
-    whole-sent (called write .call .result) _ (sound write) (wrote (write .write .result .answer) _ _) (write .write .ensures)
-    (omega (arith, c .if4 .left))
-    ∙ sym (on-sent write)
+    sym (on-sent write
+    ∙ whole-sent (called write .call .result) _ (sound write) (wrote (write .write .result .answer) _ _) (write .write .ensures)
+    (omega (arith, c .if4 .left)))
 
 pub call-on-spec : {M : Type 1} → statement M
 call-on-spec =

@@ -1,3 +1,4 @@
+-- Whatever the buffer is, it stays.
 use mathlib.Core.Path.{refl}
 use Rattle.sheet_call.proofs.refused.Statement.{statement}
 use Rattle.sheet_call.proofs.refused.Tie as tie
