@@ -1,0 +1,7 @@
+pub mod Many
+pub mod Standing
+pub mod Tallied
+pub mod Graphs
+pub mod Counted
+pub mod Twins
+pub mod Decided

@@ -1,0 +1,3 @@
+pub mod HowMany
+pub mod Density
+pub mod Parts

@@ -1,0 +1,30 @@
+use crate::edges::edges_from;
+use crate::edges::event_edges;
+use crate::events::events_of;
+use hall::table::Table;
+ghost use Rattle.density.specs.Density.{DensityOf};
+
+// The blocked tasks, the distinct awaited events, and the edges of the task graph, of the event graph and of the task-event graph.
+pub struct Density {
+    pub blocked: u64,
+    pub events: u64,
+    pub task_edges: u64,
+    pub event_edges: u64,
+    pub task_event_edges: u64,
+}
+
+pub fn density_of(table: Table) -> Density
+    ensures { λ r. ⌜ DensityOf table r ⌝ }
+{
+    let events = events_of(table);
+    let among = events.blocked;
+    let impeders = table.edges(among);
+    let blocked = sets::size(among) as u64;
+    Density {
+        blocked,
+        events: sets::size(events.first) as u64,
+        task_edges: edges_from(among, impeders),
+        event_edges: event_edges(events, impeders),
+        task_event_edges: blocked + edges_from(events.first, impeders),
+    }
+}
