@@ -22,7 +22,7 @@ use Rattle.hall.proofs.Impeded.{blocked-below}
 use Rattle.judge.specs.Routes.{largestRoute, TaskRoute}
 use Rattle.judge.specs.Verdict.{verdictOf, Found, Judged}
 use Rattle.judge.specs.declared.verdict.Verdict.{Verdict}
-use Rattle.judge.proofs.Named.{task-stuck, by-route, named-next}
+use Rattle.judge.proofs.Named.{task-stuck, found-named, named-next}
 
 -- ---- the ring walk always finds a task to step to
 no-end : (N : ℕ → Type 0) (E : ℕ → ℕ → Type 0) → ((k : ℕ) → N k → (u : ℕ) × N u × E k u) → DeadEnd N E → ⊥
@@ -57,7 +57,7 @@ module _ (t : Table) where
   found-holds route v l x = subst Holds (sym (x .verdict ∙ ap (verdictOf (x .named)) shut)) holds
     where
       named : TaskRoute t (x .named)
-      named = by-route t route (x .named) l (x .by-tasks) (x .by-events)
+      named = found-named t route v l x
 
       next : (k : ℕ) → Has (x .named) k → (u : ℕ) × Has (x .named) u × ImpedesTask t k u
       next k h = let u = named-next t k (named .iff k .0 h) in (u .0, named .iff (u .0) .1 (u .1), u .2)

@@ -6,10 +6,16 @@ use native.Mathlib.Omega.{arith}
 use Rattle.sets.specs.Set.{Has}
 use Rattle.sets.proofs.Widths.{same-members}
 use Rattle.deadlock.specs.Waiting.{TaskNamed, EventNamed, Stuck}
+use Rattle.deadlock.specs.Ring.{RingIn}
+use Rattle.deadlock.specs.declared.ring.Round.{Round}
 use Rattle.deadlock.proofs.Theory.{named-events, events-named, named-held, named-set-stuck, events-set-named}
 use Rattle.hall.specs.Waiting.{BlockedOn, Impedes, ImpedesTask}
 use Rattle.hall.specs.declared.table.Table.{Table}
-use Rattle.judge.specs.Routes.{largestRoute, TaskRoute, EventRoute}
+use Rattle.density.specs.Density.{FewerEvents}
+use Rattle.density.proofs.Decided.{fewer-decided}
+use Rattle.judge.specs.Routes.{largestRoute, TaskRoute, EventRoute, FewerRoute}
+use Rattle.judge.specs.Verdict.{verdictOf, Found}
+use Rattle.judge.specs.declared.verdict.Verdict.{Verdict}
 
 module _ (t : Table) where
   -- ---- demand 2: the named set is the set of tasks that some totally deadlocked set holds
@@ -23,20 +29,42 @@ module _ (t : Table) where
   pub event-task : (m : ℕ) → EventRoute t m → TaskRoute t m
   event-task m r = record { iff = events-set-named (BlockedOn t) (Impedes t) m (r .iff) }
 
-  -- ---- each promise fixes the set, and both routes have the same
+  pub task-fewer : (m : ℕ) → TaskRoute t m → FewerRoute t m
+  task-fewer m r = record { fewer = λ f. task-event m r; otherwise = λ n. r }
+
+  pub fewer-task : (m : ℕ) → FewerRoute t m → TaskRoute t m
+  fewer-task m r = go (fewer-decided t)
+    where
+      go : Dec (FewerEvents t) → TaskRoute t m
+      go (yes f) = event-task m (r .fewer f)
+      go (no n) = r .otherwise n
+
+  -- ---- each promise fixes the set, and all routes have the same
   pub task-one : (a b : ℕ) → TaskRoute t a → TaskRoute t b → a ≡ b
   task-one a b x y = same-members (TaskNamed (BlockedOn t) (Impedes t)) a b (x .iff) (y .iff)
 
   pub event-one : (a b : ℕ) → EventRoute t a → EventRoute t b → a ≡ b
   event-one a b x y = same-members (EventNamed (BlockedOn t) (Impedes t)) a b (x .iff) (y .iff)
 
-  pub sets-one : (a b : ℕ) → TaskRoute t a → EventRoute t b → a ≡ b
-  sets-one a b x y = task-one a b x (event-task b y)
+  pub fewer-one : (a b : ℕ) → FewerRoute t a → FewerRoute t b → a ≡ b
+  fewer-one a b x y = task-one a b (fewer-task a x) (fewer-task b y)
 
-  -- ---- what a route number says, by either route
-  pub by-route : (route m : ℕ) → route ≤ largestRoute → (route ≡ 0 → TaskRoute t m) → (route ≡ 1 → EventRoute t m) → TaskRoute t m
-  by-route zero m l x y = x refl
-  by-route (suc n) m l x y = event-task m (y (omega arith))
+  -- ---- what is found by one route is found by each
+  pub found-named : (route : ℕ) (v : Verdict) → route ≤ largestRoute → (f : Found t route v) → TaskRoute t (f .named)
+  found-named zero v l f = f .by-tasks refl
+  found-named (suc zero) v l f = event-task (f .named) (f .by-events refl)
+  found-named (suc (suc n)) v l f = fewer-task (f .named) (f .by-fewer (omega arith))
+
+  pub found-by : (route m : ℕ) (v : Verdict) (r : Round) → TaskRoute t m → RingIn (Has m) (ImpedesTask t) r → v ≡ verdictOf m r → Found t route v
+  found-by route m v r x ring e = record {
+    named = m;
+    by-tasks = λ q. x;
+    by-events = λ q. task-event m x;
+    by-fewer = λ q. task-fewer m x;
+    round = r;
+    ring = ring;
+    verdict = e;
+  }
 
   -- ---- a named task's event is impeded by a named task
   pub named-next : (k : ℕ) → TaskNamed (BlockedOn t) (Impedes t) k → (u : ℕ) × TaskNamed (BlockedOn t) (Impedes t) u × ImpedesTask t k u

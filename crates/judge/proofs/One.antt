@@ -1,4 +1,4 @@
--- The judge's promise fixes every field of the verdict, in every table, sound or not; and both routes hand back the same.
+-- The judge's promise fixes every field of the verdict, in every table, sound or not; and all routes hand back the same.
 use mathlib.Core.Path.{_≡_, refl, sym, ap, _∙_, subst}
 use mathlib.Core.Bool.{Bool, true, false}
 use Prim.Native.Nat.{ℕ, _≤_, _<_}
@@ -10,20 +10,17 @@ use Rattle.deadlock.proofs.One.{ring-in-one}
 use Rattle.hall.specs.Parts.{soundOf}
 use Rattle.hall.specs.Waiting.{ImpedesTask}
 use Rattle.hall.specs.declared.table.Table.{Table}
-use Rattle.judge.specs.Routes.{largestRoute, TaskRoute}
+use Rattle.judge.specs.Routes.{largestRoute}
 use Rattle.judge.specs.Verdict.{verdictOf, Found, Judged}
 use Rattle.judge.specs.declared.verdict.Verdict.{Verdict}
-use Rattle.judge.proofs.Named.{task-one, by-route}
+use Rattle.judge.proofs.Named.{task-one, found-named}
 
 module _ (t : Table) where
   pub found-one : (i j : ℕ) (v w : Verdict) → i ≤ largestRoute → j ≤ largestRoute → Found t i v → Found t j w → v ≡ w
   found-one i j v w li lj x y = x .verdict ∙ ap (λ m. verdictOf m (x .round)) same ∙ ap (verdictOf (y .named)) rounds ∙ sym (y .verdict)
     where
-      named : (route : ℕ) (u : Verdict) → route ≤ largestRoute → (z : Found t route u) → TaskRoute t (z .named)
-      named route u l z = by-route t route (z .named) l (z .by-tasks) (z .by-events)
-
       same : x .named ≡ y .named
-      same = task-one t (x .named) (y .named) (named i v li x) (named j w lj y)
+      same = task-one t (x .named) (y .named) (found-named t i v li x) (found-named t j w lj y)
 
       mine : RingIn (Has (y .named)) (ImpedesTask t) (x .round)
       mine = subst (λ m. RingIn (Has m) (ImpedesTask t) (x .round)) same (x .ring)

@@ -35,7 +35,7 @@ use Rattle.hall.proofs.Looking.{impedes-task}
 use Rattle.judge.specs.Routes.{largestRoute, TaskRoute}
 use Rattle.judge.specs.Verdict.{nobody as nobodyOf, verdictOf, Judged}
 use Rattle.judge.specs.declared.verdict.Verdict.{Verdict}
-use Rattle.judge.proofs.Named.{task-event}
+use Rattle.judge.proofs.Named.{found-by}
 use Rattle.judge.proofs.Tasks.{Edges, route-named}
 
 -- ---- the edges of the task route, as rows
@@ -119,12 +119,5 @@ unfolding judgeOf
 judgeOf-judged t route = record {
   no-route = λ l. rw (lt-ltb largestRoute route l) refl;
   unsound = λ l s. rw (le-ltb largestRoute route l, s) refl;
-  found = λ l s. record {
-    named = namedIn t;
-    by-tasks = λ e. named-in t;
-    by-events = λ e. task-event t (namedIn t) (named-in t);
-    round = roundIn t;
-    ring = round-in t;
-    verdict = rw (le-ltb largestRoute route l, s) refl;
-  };
+  found = λ l s. found-by t route (namedIn t) _ (roundIn t) (named-in t) (round-in t) (rw (le-ltb largestRoute route l, s) refl);
 }

@@ -5,13 +5,14 @@ use Prim.Native.Nat.{ℕ, _<_}
 use lib.ListN.{getD}
 use Rattle.sets.specs.Set.{LowestOf}
 use Rattle.hall.specs.declared.table.Table.{Table}
-use Rattle.judge.specs.Routes.{TaskRoute, EventRoute}
+use Rattle.judge.specs.Routes.{TaskRoute, EventRoute, FewerRoute}
 
 -- the lowest of each row
 pub record NextsOf (rows next : List ℕ) : Type 0 where
   pub each : (k : ℕ) → k < 32 → LowestOf (getD rows k 0) (getD next k 0)
 
--- the named set by route 0, or by any other
+-- the named set by route 0, by route 1, or by any other
 pub record ByRoute (t : Table) (route named : ℕ) : Type 0 where
   pub tasks : route ≡ 0 → TaskRoute t named
-  pub events : (route ≡ 0 → ⊥) → EventRoute t named
+  pub events : route ≡ 1 → EventRoute t named
+  pub fewer : 1 < route → FewerRoute t named

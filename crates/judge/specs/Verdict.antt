@@ -11,7 +11,7 @@ use Rattle.answers.specs.Answers.{done, noStep, noRoute, notSound}
 use Rattle.hall.specs.Parts.{soundOf}
 use Rattle.hall.specs.Waiting.{ImpedesTask}
 use Rattle.hall.specs.declared.table.Table.{Table}
-use Rattle.judge.specs.Routes.{largestRoute, TaskRoute, EventRoute}
+use Rattle.judge.specs.Routes.{largestRoute, TaskRoute, EventRoute, FewerRoute}
 use Rattle.judge.specs.declared.verdict.Verdict.{Verdict}
 
 -- "Nobody named: all zeros, then 255s"
@@ -24,11 +24,12 @@ verdictOf named round =
     cond (round .closed)
     (record { answer = done; named = named; count = size named 32; length = round .length; ring = round .tasks }) (nobody noStep)
 
--- the verdict of a sound table by route 0 or 1
+-- the verdict of a sound table by route 0, 1 or 2
 pub record Found (t : Table) (route : ℕ) (v : Verdict) : Type 0 where
   pub named : ℕ
   pub by-tasks : route ≡ 0 → TaskRoute t named
   pub by-events : route ≡ 1 → EventRoute t named
+  pub by-fewer : route ≡ 2 → FewerRoute t named
   pub round : Round
   pub ring : RingIn (Has named) (ImpedesTask t) round
   pub verdict : v ≡ verdictOf named round

@@ -1,4 +1,5 @@
 use crate::event_route::event_route;
+use crate::fewer_route::fewer_route;
 use crate::ring::ring_of;
 use crate::task_route::task_route;
 use crate::verdict::Verdict;
@@ -12,16 +13,18 @@ ghost use mathlib.Core.Path.{_≡_};
 ghost use Rattle.judge.specs.Parts.{ByRoute};
 ghost use Rattle.judge.specs.Verdict.{verdictOf, Judged};
 
-// "route not 0 or 1"
-pub const LARGEST_ROUTE: u64 = 1;
+// "41 from now on for routes over 2" (document 02, M-101)
+pub const LARGEST_ROUTE: u64 = 2;
 
 fn named_by(table: Table, route: u64) -> u32
     ensures { λ r. ⌜ ByRoute table route r ⌝ }
 {
     if route == 0 {
         task_route(table)
-    } else {
+    } else if route == 1 {
         event_route(table)
+    } else {
+        fewer_route(table)
     }
 }
 
@@ -42,7 +45,7 @@ fn verdict(named: u32, round: Round) -> Verdict
     }
 }
 
-// The verdict of a table by route 0, the task route, or 1, the event route.
+// The verdict of a table by route 0, the task route, 1, the event route, or 2, which chooses one of them.
 pub fn judge(table: Table, route: u64) -> Verdict
     ensures { λ r. ⌜ Judged table route r ⌝ }
 {
