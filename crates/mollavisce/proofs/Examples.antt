@@ -32,7 +32,7 @@ use Rattle.sheet.proofs.Examples.{p4}
 use Rattle.mollavisce.specs.Entry.{Entered}
 use Rattle.mollavisce.specs.Strip.{stripOf, stripAfter}
 
--- by either route the sheet leaves these 38 bytes, and the rest of the strip
+-- by whichever route the sheet leaves these 38 bytes, and the rest of the strip
 abbrev pub Leaves : List ℕ → List ℕ → Type 0
 Leaves sheet bytes =
     (route : ℕ) (before after : List ℕ) (answer : ℕ) → route ≤ largestRoute → 38 ≤ length before → Entered sheet route before after answer
@@ -44,7 +44,7 @@ unfolding stripAfter
 computed sheet a d route before after answer l m x =
     let y = x .judged l m in
     let t = sheetAt sheet .table in
-    let zero-there : 0 ≤ 1 = omega arith in
+    let zero-there : 0 ≤ largestRoute = omega arith in
     let e = routes-agree t route 0 (y .0) (judgeOf t 0) l zero-there (y .1 .judged l a) (judgeOf-judged t 0) in
     let n = ap (λ (v : Verdict). v .answer) e ∙ d in
     (y .2 ∙ n, y .3 ∙ (rw (eq-eqb (y .0 .answer) done n) (ap (λ (v : Verdict). stripOf v ++ drop 38 before) e)))
