@@ -7,7 +7,7 @@ use native.Mathlib.Omega.{arith}
 use Rattle.hall.specs.declared.table.Table.{Table}
 use Rattle.judge.specs.Verdict.{Judged}
 use Rattle.judge.specs.declared.verdict.Verdict.{Verdict}
-use Rattle.judge.proofs.Named.{by-route, task-event}
+use Rattle.judge.proofs.Named.{found-named, found-by}
 use Rattle.judge.specs.Routes.{largestRoute}
 use Rattle.mollavisce.specs.Entry.{VerdictOf, Entered}
 
@@ -25,15 +25,7 @@ module _ (given route : ℕ) (alike : (largestRoute < given) ↔ (largestRoute <
     unsound = λ l. j .unsound (there l);
     found = λ l s.
         let f = j .found (there l) s in
-        let tasks = by-route t given (f .named) (there l) (f .by-tasks) (f .by-events) in
-        record {
-          named = f .named;
-          by-tasks = λ e. tasks;
-          by-events = λ e. task-event t (f .named) tasks;
-          round = f .round;
-          ring = f .ring;
-          verdict = f .verdict;
-        };
+        found-by t route (f .named) v (f .round) (found-named t given v (there l) f) (f .ring) (f .verdict);
   }
 
   pub sheet-judged-by : (sheet : List ℕ) (v : Verdict) → VerdictOf sheet given v → VerdictOf sheet route v
