@@ -22,7 +22,7 @@ use Rattle.demands.specs.Series.{Series, after}
 
 -- ---- what a row states
 pub data Row : Type 0 where
-  -- of a table: whom either route names, and the ring
+  -- of a table: whom each route names, and the ring
   judged : Table → List ℕ → List ℕ → Row
   -- after a series of calls from a table: a call, its answer and its value
   called : Table → List Call → Call → ℕ → ℕ → Row
