@@ -48,7 +48,7 @@ pub(crate) fn lines() {
     let p4 =
         b"\x01\x02\x00\x01\x02\x00\x01\x00\x01\x02\x00\x01\x01\x00\x01\x01\x01\x01\x02\x00\x00\x01\x01";
     // 41 before 40
-    line(p4, 2, 37);
+    line(p4, 3, 37);
     line(p4, 18_446_744_073_709_551_615, 0);
     // 40, for strips of 0 and 37 bytes; before the sheet's own refusal
     line(p4, 0, 0);
@@ -57,5 +57,6 @@ pub(crate) fn lines() {
     // the two bytes past 38 stay; a strip of just 38
     line(p4, 0, 40);
     line(p4, 1, 38);
+    line(p4, 2, 38);
     refusals();
 }

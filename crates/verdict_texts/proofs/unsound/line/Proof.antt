@@ -1,14 +1,14 @@
--- Two routes, and eleven kinds of call.
+-- Three routes, and eleven kinds of call.
 use Prim.Native.Nat.{_≤_, _-_}
 use borrow.Author.Needs.{needs}
 use Rattle.verdict_texts.proofs.unsound.line.Statement.{statement}
 use Rattle.verdict_texts.proofs.unsound.line.Tie as tie
 
 abbrev Inv-loop : tie.InvT-loop
-Inv-loop table route₀ route = route ≤ 2
+Inv-loop table route₀ route = route ≤ 3
 
 abbrev μ-loop : tie.MeasureT-loop
-μ-loop table route₀ route = 2 - route
+μ-loop table route₀ route = 3 - route
 
 abbrev Inv-loop2 : tie.InvT-loop2
 Inv-loop2 table kind₀ kind = kind ≤ 11
