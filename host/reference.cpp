@@ -1,12 +1,15 @@
 #include "reference.hpp"
 
 #include <cstring>
+#include <utility>
 
 namespace reference {
 namespace {
 
 constexpr std::uint32_t largest_phase = 65535, unlimited = UINT32_MAX;
 constexpr std::size_t longest_sheet = 2291;
+constexpr std::uint64_t largest_route = 2, most_sheets = 1000;
+constexpr std::uint32_t largest_length = 4096;
 
 struct Reader {
     const std::uint8_t *at, *end;
@@ -153,9 +156,13 @@ std::uint32_t member(const Table &table, std::uint64_t task, std::uint64_t phase
     return table.member[task][phaser] ? 0 : 13;
 }
 
+bool impedes(const Table &table, std::uint32_t k, std::uint64_t phaser, std::uint64_t phase) {
+    return table.member[k][phaser] && table.phase[k][phaser] < phase;
+}
+
 bool reached(const Table &table, std::uint64_t phaser, std::uint64_t phase) {
     for (std::uint32_t k = 0; k < 32; ++k)
-        if (table.member[k][phaser] && table.phase[k][phaser] < phase)
+        if (impedes(table, k, phaser, phase))
             return false;
     return true;
 }
@@ -269,6 +276,101 @@ Called release(Table &table, std::uint64_t number) {
 
 std::uint32_t lowest(std::uint32_t set) { return static_cast<std::uint32_t>(__builtin_ctz(set)); }
 
+std::uint32_t size(std::uint32_t set) { return static_cast<std::uint32_t>(__builtin_popcount(set)); }
+
+// An awaited event, and the blocked tasks about it, bit k for task k.
+struct Awaited {
+    std::uint32_t phaser, phase;
+    std::uint32_t waiters = 0, impeders = 0;
+};
+
+struct AwaitedEvents {
+    Awaited event[32];
+    std::size_t count = 0;
+
+    const Awaited *begin() const { return event; }
+    const Awaited *end() const { return event + count; }
+    Awaited &of(const Task &task) {
+        for (std::size_t e = 0; e < count; ++e)
+            if (event[e].phaser == task.phaser && event[e].phase == task.phase)
+                return event[e];
+        event[count] = {task.phaser, task.phase};
+        return event[count++];
+    }
+};
+
+AwaitedEvents awaited_events(const Table &table) {
+    AwaitedEvents events;
+    std::uint32_t blocked = 0;
+    for (std::uint32_t k = 0; k < 32; ++k)
+        if (table.task[k].state == State::blocked) {
+            blocked |= 1u << k;
+            events.of(table.task[k]).waiters |= 1u << k;
+        }
+    for (std::size_t e = 0; e < events.count; ++e)
+        for (std::uint32_t left = blocked; left != 0; left &= left - 1)
+            if (impedes(table, lowest(left), events.event[e].phaser, events.event[e].phase))
+                events.event[e].impeders |= 1u << lowest(left);
+    return events;
+}
+
+// A run over a file: the lines so far, and what is added up.
+struct Run {
+    std::string lines;
+    std::uint64_t sheets = 0, refused = 0;
+    Density total;
+
+    Run &say(const char *word, std::uint64_t number) {
+        lines.append(word).append(" ").append(std::to_string(number));
+        return *this;
+    }
+    Run &say(const Density &counts) {
+        return say(" blocked", counts.blocked)
+            .say(" events", counts.events)
+            .say(" task", counts.task)
+            .say(" event", counts.event)
+            .say(" task-event", counts.task_event);
+    }
+    void end_line() { lines.push_back('\n'); }
+
+    void add(const Density &counts) {
+        total.blocked += counts.blocked;
+        total.events += counts.events;
+        total.task += counts.task;
+        total.event += counts.event;
+        total.task_event += counts.task_event;
+    }
+
+    void sheet(const std::uint8_t *bytes, std::size_t length) {
+        say("sheet", sheets + refused + 1);
+        Table table;
+        if (const std::uint32_t refusal = read(bytes, length, table)) {
+            ++refused;
+            say(" refused", refusal);
+        } else {
+            ++sheets;
+            const Density counts = density(table);
+            add(counts);
+            say(counts);
+        }
+        end_line();
+    }
+
+    // 0 at the file's end, or what stopped the run.
+    std::uint32_t file(Reader reader) {
+        for (std::uint32_t length; reader.at != reader.end; reader.at += length) {
+            if (sheets + refused == most_sheets)
+                return 35;
+            if (!reader.number(largest_length, length))
+                return reader.refusal;
+            if (length > reader.end - reader.at)
+                return 30;
+            sheet(reader.at, length);
+        }
+        return 0;
+    }
+};
+
 } // namespace
 
 std::uint32_t read(const std::uint8_t *sheet, std::size_t length, Table &table) {
@@ -344,7 +446,7 @@ Verdict judge(const Table &table) {
         verdict.named |= 1u << t;
         impeders[t] = 0;
         for (std::uint32_t u = 0; u < 32; ++u)
-            if (table.member[u][task.phaser] && table.phase[u][task.phaser] < task.phase)
+            if (impedes(table, u, task.phaser, task.phase))
                 impeders[t] |= 1u << u;
     }
     // The greatest set in which each is blocked and impeded by one of the set holds every totally deadlocked set, and
@@ -376,7 +478,7 @@ Verdict judge(const Table &table) {
 
 std::uint32_t verdict(const std::uint8_t *sheet, std::size_t length, std::uint64_t route, std::uint8_t *strip,
                       std::size_t strip_length) {
-    if (route > 1)
+    if (route > largest_route)
         return 41;
     if (strip_length < 38)
         return 40;
@@ -386,11 +488,35 @@ std::uint32_t verdict(const std::uint8_t *sheet, std::size_t length, std::uint64
     const Verdict found = judge(table);
     for (int byte = 0; byte < 4; ++byte)
         strip[byte] = static_cast<std::uint8_t>(found.named >> 8 * byte);
-    strip[4] = static_cast<std::uint8_t>(__builtin_popcount(found.named));
+    strip[4] = static_cast<std::uint8_t>(size(found.named));
     strip[5] = found.ring_length;
     std::memset(strip + 6, 255, 32);
     std::memcpy(strip + 6, found.ring, found.ring_length);
     return 0;
+}
+
+Density density(const Table &table) {
+    const AwaitedEvents events = awaited_events(table);
+    Density counts;
+    counts.events = events.count;
+    for (const Awaited &e : events) {
+        counts.blocked += size(e.waiters);
+        counts.task += size(e.waiters) * size(e.impeders);
+        for (const Awaited &f : events)
+            counts.event += (e.impeders & f.waiters) != 0;
+        counts.task_event += size(e.waiters) + size(e.impeders);
+    }
+    return counts;
+}
+
+std::string densities(const std::uint8_t *file, std::size_t length) {
+    Run run;
+    if (const std::uint32_t stop = run.file({file, file + length}))
+        run.say("stopped", stop);
+    else
+        run.say("total sheets", run.sheets).say(" refused", run.refused).say(run.total);
+    run.end_line();
+    return std::move(run.lines);
 }
 
 } // namespace reference

@@ -1,9 +1,10 @@
-// Document 01 read a second time, with document 02's sheet of a table, in plain C++ that shares nothing with the
-// library: to compare answers, bytes and times with.
+// Document 01 read a second time, with document 02's sheet of a table and its counts of the graphs, in plain C++ that
+// shares nothing with the library: to compare answers, bytes, lines and times with.
 #pragma once
 
 #include <cstddef>
 #include <cstdint>
+#include <string>
 
 namespace reference {
 
@@ -51,8 +52,18 @@ std::uint32_t call(const std::uint8_t *sheet, std::size_t sheet_length, std::uin
 // The named tasks by the definition, and the ring.
 Verdict judge(const Table &table);
 
-// What sheet_verdict should do.
+// What sheet_verdict should do. By the definition there is one set of named tasks, so no route has a way of its own.
 std::uint32_t verdict(const std::uint8_t *sheet, std::size_t length, std::uint64_t route, std::uint8_t *strip,
                       std::size_t strip_length);
+
+// Document 02, M-101.
+struct Density {
+    std::uint64_t blocked = 0, events = 0;             // blocked tasks, distinct awaited events
+    std::uint64_t task = 0, event = 0, task_event = 0; // edges of the three graphs
+};
+Density density(const Table &table);
+
+// What sheetdensity should print of a file.
+std::string densities(const std::uint8_t *file, std::size_t length);
 
 } // namespace reference
