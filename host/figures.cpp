@@ -22,7 +22,7 @@ static_assert(mollavisce::longest_sheet == code::LONGEST_SHEET);
 static_assert(mollavisce::settling_bytes == code::SETTLING_BYTES);
 static_assert(mollavisce::strip_bytes == code::STRIP_BYTES);
 static_assert(static_cast<std::uint64_t>(mollavisce::Kind::release) + 1 == code::KINDS);
-static_assert(static_cast<std::uint64_t>(mollavisce::Route::events) == code::LARGEST_ROUTE);
+static_assert(static_cast<std::uint64_t>(mollavisce::Route::fewer) == code::LARGEST_ROUTE);
 
 static_assert(number(Answer::done) == code::DONE);
 static_assert(number(Answer::wait_passed) == code::WAIT_PASSED);

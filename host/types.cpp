@@ -74,7 +74,7 @@ static_assert(judges<std::span<const std::uint8_t>> && judges<std::span<std::byt
 #endif
 
 static_assert(noexcept(judge(nullptr, 23)) &&noexcept(judge({fresh.data(), 3})) &&noexcept(judge(fresh)));
-static_assert(noexcept(judge(fresh, Route::events)) &&noexcept(judge("", 1, Route::events)));
+static_assert(noexcept(judge(fresh, Route::events)) &&noexcept(judge("", 1, Route::fewer)));
 static_assert(noexcept(Hall().load(nullptr, 23)) &&noexcept(Hall().load({fresh.data(), 3})));
 
 } // namespace

@@ -34,7 +34,7 @@ extern "C" {
  *   13  caller not a member                                35  bytes after the sheet
  *   14  target already a member                            36  sheet speaks of a phaser that isn't open
  *   15  phase would exceed, or exceeds, 65,535             40  answer strip under 38 bytes
- *   16  no free number of that sort                        41  route not 0 or 1
+ *   16  no free number of that sort                        41  route over 2
  *   17  task to release is not blocked                     42  no such kind of call
  *   18  some member has not reached the awaited phase      43  buffer shorter than the sheet
  *   19  phaser has a member, or a task is blocked on it    44  table not sound
@@ -53,7 +53,8 @@ extern "C" {
  */
 
 /*
- * Judges a sheet by route 0 (task to task) or 1 (event to event). Both name the same tasks and give the same ring.
+ * Judges a sheet by a route: 0 goes from task to task, 1 from event to event, 2 by events where the awaited ones are
+ * fewer than the blocked tasks, otherwise by tasks. All name the same tasks and give the same ring.
  * Tests: 41, 40, then the sheet's 30 to 36. Answer 0 writes the first 38 bytes of the strip and keeps the rest:
  *   0..3   mask of the named tasks, low byte first, bit k for task k
  *   4      how many are named

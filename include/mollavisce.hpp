@@ -69,8 +69,12 @@ enum class Kind : std::uint64_t {
     release = 9,
 };
 
-// Both routes name the same tasks and give the same ring, whatever the sheet.
-enum class Route : std::uint64_t { tasks = 0, events = 1 };
+// All routes name the same tasks and give the same ring, whatever the sheet.
+enum class Route : std::uint64_t {
+    tasks = 0,  // from task to task
+    events = 1, // from event to event
+    fewer = 2,  // events where they are fewer than blocked tasks, otherwise tasks
+};
 
 enum class Answer : std::uint32_t {
     done = 0,
@@ -129,7 +133,7 @@ enum class Answer : std::uint32_t {
     case Answer::bytes_after_sheet: return "bytes after the sheet";
     case Answer::phaser_not_open: return "sheet speaks of a phaser that isn't open";
     case Answer::strip_too_short: return "answer strip under 38 bytes";
-    case Answer::no_such_route: return "route not 0 or 1";
+    case Answer::no_such_route: return "route over 2";
     case Answer::no_such_kind: return "no such kind of call";
     case Answer::buffer_too_short: return "buffer shorter than the sheet";
     case Answer::not_sound: return "table not sound";
