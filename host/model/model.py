@@ -1,18 +1,23 @@
 #!/usr/bin/env python3
-"""Document 01, and document 02's writer, in plain Python: a model that shares nothing with the library, for outputs to compare with.
-`host/run` runs all of it.
+"""Document 01, and document 02's writer and density run, in plain Python: a model that shares nothing with the library, for outputs to
+compare with. `host/run` runs all of it.
 
-  model.py test                  the bench cases, the judge against every set of tasks, the writer against the reader, series of calls
+  model.py test                  the bench cases, the judge against every set of tasks, the writer against the reader, series of calls, densities
   model.py odd-numbers           calls, with answers and values: what `oddnumbers` must print
   model.py sheets                damaged sheets, with verdicts: what `damaged_sheets` must print
   model.py written               tables, written into buffers of several lengths: what `written_sheets` must print
   model.py vectors SEED COUNT    random and damaged sheets: `verdict`, sheet, answer and strip (for `check -`)
   model.py calls SEED COUNT      series of calls on sheets: `call`, sheet, kind, task, phaser, other, sort, the buffer's length; answer,
                                  value, length and next sheet (for `check -`; bytes in hex, none as `-`)
+  model.py densities FILE        what `sheetdensity` must print of a file
+  model.py thousand-sheets       the file, of 1,000 sheets, that stands in `sheetdensity`'s folder as its standard input
+  model.py density-files FOLDER  files for `sheetdensity`, NAME.sheets, each with what it must print, NAME.lines
 
-Sections stand in document 01's order, with the writer and the entries after the sheet, and quoted words are the documents' own.
+Sections stand in document 01's order, with the writer, the entries and the density run after the sheet, and quoted words are the documents' own.
 """
+import functools
 import itertools
+import pathlib
 import random
 import sys
 
@@ -188,13 +193,21 @@ def call(t, kind, task=0, phaser=0, other=0):
 # ---- Stuck
 
 
+def blocked_tasks(t):
+    return [k for k in range(TASKS) if t.blocked(k)]
+
+
+def awaited_events(t):
+    return sorted({t.state[k] for k in blocked_tasks(t)})
+
+
 def totally_deadlocked(t, tasks):
     return bool(tasks) and all(t.blocked(k) and any(impedes(t, u, t.state[k]) for u in tasks) for k in tasks)
 
 
 def named_by_sets(t):
     """Every set there is, one by one."""
-    blocked = [k for k in range(TASKS) if t.blocked(k)]
+    blocked = blocked_tasks(t)
     sets = (s for n in range(len(blocked) + 1) for s in itertools.combinations(blocked, n))
     return set().union(*(s for s in sets if totally_deadlocked(t, s)))
 
@@ -208,17 +221,35 @@ def with_endless_walk(nodes, edge):
     return able
 
 
+def task_edge(t, a, b):
+    """Of two blocked tasks."""
+    return impedes(t, b, t.state[a])
+
+
+def event_edge(t, e, f):
+    """Of two awaited events."""
+    return any(t.state[k] == f and impedes(t, k, e) for k in blocked_tasks(t))
+
+
 def named_by_tasks(t):
-    return with_endless_walk([k for k in range(TASKS) if t.blocked(k)], lambda a, b: impedes(t, b, t.state[a]))
+    return with_endless_walk(blocked_tasks(t), lambda a, b: task_edge(t, a, b))
 
 
 def named_by_events(t):
-    blocked = [k for k in range(TASKS) if t.blocked(k)]
-    able = with_endless_walk(
-        sorted({t.state[k] for k in blocked}),
-        lambda e, f: any(t.state[k] == f and impedes(t, k, e) for k in blocked),
-    )
-    return {k for k in blocked if t.state[k] in able}
+    able = with_endless_walk(awaited_events(t), lambda e, f: event_edge(t, e, f))
+    return {k for k in blocked_tasks(t) if t.state[k] in able}
+
+
+def fewer_events(t):
+    return len(awaited_events(t)) < len(blocked_tasks(t))
+
+
+def named_by_fewer(t):
+    """'A third route, 2, uses events where they are fewer than blocked tasks, and otherwise tasks.'"""
+    return named_by_events(t) if fewer_events(t) else named_by_tasks(t)
+
+
+ROUTES = [named_by_tasks, named_by_events, named_by_fewer]
 
 
 def ring_of(t, named):
@@ -308,9 +339,9 @@ NOBODY = bytes(6) + b"\xff" * 32
 def judge(t, route):
     """Answer and what the strip would hold."""
     try:
-        ask(route in (0, 1), 41)
+        ask(route < len(ROUTES), 41)
         ask(sound(t), 44)
-        named = (named_by_tasks, named_by_events)[route](t)
+        named = ROUTES[route](t)
         ring = ring_of(t, named)
         mask = sum(2**k for k in named)
         return 0, mask.to_bytes(4, "little") + bytes([len(named), len(ring), *ring]) + b"\xff" * (32 - len(ring))
@@ -321,7 +352,7 @@ def judge(t, route):
 def sheet_verdict(data, route=0, strip=NOBODY):
     """Answer and the strip as it stands afterwards."""
     try:
-        ask(route in (0, 1), 41)
+        ask(route < len(ROUTES), 41)
         ask(len(strip) >= 38, 40)
         answer, written = judge(Sheet(data).table(), route)
         return answer, strip if answer else written + strip[38:]
@@ -362,6 +393,55 @@ def sheet_call(data, kind, task, phaser, other, sort, buffer):
         return answer, value, length, written
     except Refused as refusal:
         return refusal.args[0], 0, 0, buffer
+
+
+# ---- Document 02, M-101
+
+MOST_SHEETS, LARGEST_LENGTH = 1000, 4096
+COUNTED = "blocked", "events", "task", "event", "task-event"
+
+
+def density(t):
+    """'The blocked tasks, the distinct awaited events, the edges of the task graph, of the event graph and of the task-event graph.' The last
+    'has one edge per blocked task to its event, and one from an awaited event to each blocked task that impedes it'."""
+    blocked, events = blocked_tasks(t), awaited_events(t)
+    task = [(a, b) for a in blocked for b in blocked if task_edge(t, a, b)]
+    event = [(e, f) for e in events for f in events if event_edge(t, e, f)]
+    task_event = [(a, t.state[a]) for a in blocked] + [(e, a) for e in events for a in blocked if impedes(t, a, e)]
+    return [len(counted) for counted in (blocked, events, task, event, task_event)]
+
+
+@functools.lru_cache(maxsize=None)  # a file may have one sheet many times
+def sheet_density(data):
+    """Answer and counts."""
+    try:
+        return 0, density(Sheet(data).table())
+    except Refused as refusal:
+        return refusal.args[0], [0] * len(COUNTED)
+
+
+def with_words(counts):
+    return [word for pair in zip(COUNTED, counts) for word in pair]
+
+
+def densities(data):
+    """What `sheetdensity` prints of a file. 'A refused sheet prints its number and adds only to a total of refused ones.' 'A length is at most
+    4,096; one that is refused or runs past the end (30), or a byte after the thousandth sheet (35), stops the run with that number in place
+    of the totals.'"""
+    file, totals, accepted, refused = Sheet(data), [0] * len(COUNTED), 0, 0
+    try:
+        while file.at < len(data):
+            ask(accepted + refused < MOST_SHEETS, 35)
+            length = file.number(LARGEST_LENGTH)
+            start, file.at = file.at, file.at + length
+            ask(file.at <= len(data), 30)
+            answer, counts = sheet_density(data[start : file.at])
+            accepted, refused = accepted + (answer == 0), refused + (answer != 0)
+            totals = [total + count for total, count in zip(totals, counts)]
+            yield "sheet", accepted + refused, *(["refused", answer] if answer else with_words(counts))
+        yield "total", "sheets", accepted, "refused", refused, *with_words(totals)
+    except Refused as refusal:
+        yield "stopped", refusal.args[0]
 
 
 # ---- Bench cases
@@ -499,6 +579,11 @@ class Draws:
         self.state = (self.state * 25173 + 13849) % 65536
         return self.state // 256 % bound
 
+    randrange = below
+
+    def choice(self, values):
+        return values[self.below(len(values))]
+
     def phase(self):
         groups = self.below(4)
         if groups == 0:
@@ -625,8 +710,100 @@ def vectors(seed, count):
     for _ in range(count):
         data = sheet_of(stepping_table(rand) if rand.random() < 0.1 else random_table(rand))
         data = data if rand.random() < 0.3 else damaged(rand, data)
-        answer, strip = sheet_verdict(data, rand.randrange(2))
+        answer, strip = sheet_verdict(data, rand.randrange(len(ROUTES)))
         yield "verdict", data.hex() or "-", answer, strip.hex()
+
+
+# ---- Files of sheets
+
+
+def file_of(*sheets):
+    """'Each after its length as a house number.'"""
+    return b"".join(groups(len(sheet)) + sheet for sheet in sheets)
+
+
+def crowd(tasks, phasers):
+    """Tasks blocked on the first phases of so many phasers, by turns, each a member of all at phase 0."""
+    waits = {k: (k % phasers, 1) for k in range(tasks)}
+    return table(range(phasers), waits, {p: {k: 0 for k in range(tasks)} for p in range(phasers)})
+
+
+def gathered_table(draws):
+    """Up to four tasks at up to three phasers, at low phases: so many await the same event, and some waits are met."""
+    t = Table()
+    apart, first = 1 + draws.below(8), draws.below(14)
+    phasers = [first + p for p in range(1 + draws.below(3))]
+    for p in phasers:
+        t.opened[p] = True
+    for k in range(0, apart * (1 + draws.below(4)), apart):
+        t.state[k] = RUNNING if draws.below(8) == 0 else (draws.choice(phasers), draws.below(4))
+        for p in phasers:
+            if draws.below(3):
+                t.member[k][p], t.phase[k][p] = True, draws.below(3)
+    return t
+
+
+def thousand_sheets():
+    """The bench cases, the longest sheet, four crowds, a needless group, and small drawn tables. Of these every ninth is damaged, which some
+    of them bear, and every 25th has no bytes."""
+    draws = Draws()
+    first = [t for t, _, _ in BENCH.values()] + [LONGEST, crowd(30, 2), crowd(32, 1), crowd(5, 3), crowd(16, 16)]
+    sheets = [sheet_of(t) for t in first] + [b"\x01\x80\x00\x00"]
+    for number in range(len(sheets), MOST_SHEETS):
+        sheet = sheet_of(gathered_table(draws))
+        sheets.append(b"" if number % 25 == 0 else damaged(draws, sheet) if number % 9 == 0 else sheet)
+    return sheets
+
+
+P6 = sheet_of(BENCH["P6"][0])
+STOPS = {  # how a file may go on so that the run stops there
+    "30-length-cut-after-one": b"\x80",
+    "30-length-cut-after-two": b"\xff\xff",
+    "30-past-the-end": groups(len(P6)) + P6[:-1],
+    "30-largest-length-past-the-end": groups(LARGEST_LENGTH) + bytes(LARGEST_LENGTH - 1),
+    "31-needless-second-group": b"\x9e\x00" + P6,
+    "31-needless-third-group": b"\x9e\x80\x00" + P6,
+    "31-nothing-in-two-groups": b"\x80\x00",
+    "32-third-byte-goes-on": b"\x80\x80\x80",
+    "32-third-byte-goes-on-and-more": b"\x9e\x80\x80\x00" + P6,
+    "32-one-over-the-largest-length": groups(LARGEST_LENGTH + 1) + bytes(LARGEST_LENGTH + 1),
+    "32-as-much-as-three-groups-hold": b"\xff\xff\x7f",
+}
+
+
+def random_sheets(rand, count):
+    for _ in range(count):
+        sheet = sheet_of(stepping_table(rand) if rand.random() < 0.1 else random_table(rand, rand.choice([4, 12, TASKS])))
+        yield b"" if rand.random() < 0.1 else damaged(rand, sheet) if rand.random() < 0.5 else sheet
+
+
+def density_files():
+    """By name. Each stop comes at once, after three sheets, as the thousandth, and after it, where it is 35."""
+    rand, thousand, longest = random.Random(20261116), thousand_sheets(), sheet_of(LONGEST)
+    bench = [sheet_of(t) for t, _, _ in BENCH.values()]
+    files = {
+        "none": b"",
+        "one": file_of(bench[3]),
+        "bench": file_of(*bench),
+        "thousand": file_of(*thousand),
+        "thousand-and-one": file_of(*thousand, bench[3]),
+        "thousand-of-no-bytes": file_of(*[b""] * MOST_SHEETS),
+        "thousand-of-the-longest": file_of(*[longest] * MOST_SHEETS),
+        "the-largest-length": file_of(bench[3], longest + bytes(LARGEST_LENGTH - len(longest)), bytes(LARGEST_LENGTH), b"\xff" * 4095, bench[3]),
+        "longest-among-small": file_of(*[longest, bench[1], b"", longest + b"\x00", bench[5]] * 20),
+    }
+    files.update({f"random-{number}": file_of(*random_sheets(rand, 100)) for number in range(1, 9)})
+    for stop, rest in STOPS.items():
+        files.update({f"stop-{stop}-after-{count}": file_of(*thousand[:count]) + rest for count in (0, 3, 999, 1000)})
+    mixed = file_of(bench[1], b"", bench[3] + b"\x00", longest[:130])
+    files.update({f"cut-before-{at}": mixed[:at] for at in range(44)})
+    return files
+
+
+def write_density_files(folder):
+    for name, data in density_files().items():
+        (folder / f"{name}.sheets").write_bytes(data)
+        (folder / f"{name}.lines").write_text("".join(" ".join(map(str, line)) + "\n" for line in densities(data)))
 
 
 # ---- Series of calls
@@ -704,12 +881,12 @@ def calls(seed, count):
 def test():
     for case, (t, named, ring) in BENCH.items():
         data = sheet_of(t)
-        strips = [sheet_verdict(data, route) for route in (0, 1)]
+        strips = [sheet_verdict(data, route) for route in range(3)]
         assert all(answer == 0 and told(strip)[1:] == (named, ring) for answer, strip in strips), case
     assert sheet_of(P4).hex(" ") == "01 02 00 01 02 00 01 00 01 02 00 01 01 00 01 01 01 01 02 00 00 01 01"
     assert sheet_verdict(sheet_of(P4))[1] == bytes.fromhex("0300000002020001") + b"\xff" * 30
     assert sheet_of(Table()).hex(" ") == "01 00 00" and sheet_verdict(b"")[0] == 30
-    assert sheet_verdict(b"", 2, b"")[0] == 41 and sheet_verdict(b"", 0, bytes(37)) == (40, bytes(37))
+    assert sheet_verdict(b"", 3, b"")[0] == 41 and sheet_verdict(b"", 0, bytes(37)) == (40, bytes(37))
     assert sheet_verdict(sheet_of(P4), 0, bytes(40))[1][38:] == bytes(2)
     t = Table()  # P10, P11
     for _ in range(32):
@@ -728,18 +905,19 @@ def test():
     full = table(range(16), {k: (15, 65535) for k in range(32)}, {p: {k: 65535 for k in range(32)} for p in range(16)})
     assert len(sheet_of(full)) == 2291
 
-    rand, stuck = random.Random(1), 0
+    rand, stuck, fewer = random.Random(1), 0, 0
     for _ in range(3000):
         t = random_table(rand, 9)
         named = named_by_sets(t)
-        assert sound(t) and named == named_by_tasks(t) == named_by_events(t)
+        assert sound(t) and all(route(t) == named for route in ROUTES)
         back = Sheet(sheet_of(t)).table()
         assert vars(back) == vars(t)
-        stuck += bool(named)
+        stuck, fewer = stuck + bool(named), fewer + fewer_events(t)
         kind, numbers = rand.randrange(11), [rand.choice(ODD[:6] + list(range(9))) for _ in range(3)]
         answer, value, after = call(t, kind, *numbers)
         assert sound(after) and (answer < 10 or value == 0 and vars(after) == vars(t))
-    print(f"model: bench as document 01 states it; 3000 random tables, {stuck} with stuck tasks, all by sets and both routes alike")
+    print(f"model: bench as document 01 states it; 3000 random tables, {stuck} with stuck tasks, all by sets and all three routes alike")
+    print(f"model: route 2 went by events on {fewer} of them, and by tasks on the others")
     test_write(rand)
 
 
@@ -792,6 +970,34 @@ def test_calls():
         t = after if rand.random() < 0.995 else Table()
     assert seen <= {0, 1, 2, *range(10, 21), 42}
     print(f"model: 3000 calls in series, on sheets as on tables; {len(seen)} different answers")
+    test_densities()
+
+
+def test_densities():
+    """The counts that are known by hand, and each way in which a run ends."""
+    by_hand = {"P1": [0, 0, 0, 0, 0], "P2": [1, 1, 1, 1, 2], "P3": [1, 1, 0, 0, 1], "P4": [2, 2, 2, 2, 4], "P5": [2, 2, 1, 1, 3]}
+    by_hand.update({"P6": [3, 2, 3, 2, 5], "P7": [2, 2, 1, 1, 3], "P8": [3, 3, 4, 4, 7], "P9": [2, 2, 2, 2, 4]})
+    assert {case: density(t) for case, (t, _, _) in BENCH.items()} == by_hand
+    assert density(crowd(30, 1)) == [30, 1, 900, 1, 60] and density(crowd(32, 2)) == [32, 2, 1024, 4, 96]
+    p4 = sheet_of(P4)
+    lines = "sheet 1 blocked 2 events 2 task 2 event 2 task-event 4|sheet 2 refused 30|"
+    ends = {
+        b"": "total sheets 1 refused 1 blocked 2 events 2 task 2 event 2 task-event 4",
+        b"\x80": "stopped 30",
+        b"\x80\x80": "stopped 30",
+        b"\x80\x80\x80": "stopped 32",
+        b"\x80\x00": "stopped 31",
+        b"\x81\x20": "stopped 32",
+        b"\x80\x20": "stopped 30",
+        b"\x02\x01": "stopped 30",
+    }
+    for rest, end in ends.items():
+        assert "|".join(" ".join(map(str, line)) for line in densities(file_of(p4, b"") + rest)) == lines + end
+    full = file_of(*[b""] * MOST_SHEETS)
+    assert [*densities(full)][-1][:5] == ("total", "sheets", 0, "refused", 1000) and [*densities(full + b"\x80")][-1] == ("stopped", 35)
+    files = density_files()
+    ends = {end: sum([*densities(data)][-1] == ("stopped", end) for data in files.values()) for end in (30, 31, 32, 35)}
+    print(f"model: densities as stated; {len(files)} files, stopped: {', '.join(f'{count} with {end}' for end, count in ends.items())}")
 
 
 def main(words):
@@ -800,6 +1006,13 @@ def main(words):
     elif words in (["odd-numbers"], ["sheets"], ["written"]):
         for line in {"odd-numbers": odd_numbers, "sheets": sheets, "written": written}[words[0]]():
             print(*line)
+    elif words == ["thousand-sheets"]:
+        sys.stdout.buffer.write(file_of(*thousand_sheets()))
+    elif len(words) == 2 and words[0] == "densities":
+        for line in densities(pathlib.Path(words[1]).read_bytes()):
+            print(*line)
+    elif len(words) == 2 and words[0] == "density-files":
+        write_density_files(pathlib.Path(words[1]))
     elif len(words) == 3 and words[0] in ("vectors", "calls"):
         for line in {"vectors": vectors, "calls": calls}[words[0]](int(words[1]), int(words[2])):
             print(*line)
