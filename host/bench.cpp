@@ -1,6 +1,5 @@
-// Beside plain C++ (reference.cpp) in the same run: time of a whole verdict by either route and of a call, where they
-// are accepted and where they are refused; and their stack. Fails where the stack is over its limit. No time has a
-// limit.
+// Beside plain C++ (reference.cpp) in the same run: time of a whole verdict by each route and of a call, where they are
+// accepted and where they are refused; and their stack. Fails where the stack is over its limit. No time has a limit.
 #include "reference.hpp"
 
 #include <mollavisce.hpp>
@@ -153,10 +152,10 @@ struct Way {
     }
 };
 
-// Plain C++ has one way for both routes.
-constexpr std::size_t way_count = 4;
+// Plain C++ has one way for all routes.
+constexpr std::size_t route_count = 3, way_count = route_count + 2;
 const Way ways[way_count] = {
-    {sheet_verdict, 0}, {sheet_verdict, 1}, {reference::verdict, 0}, {reference_o3::verdict, 0}};
+    {sheet_verdict, 0}, {sheet_verdict, 1}, {sheet_verdict, 2}, {reference::verdict, 0}, {reference_o3::verdict, 0}};
 
 struct Row {
     const char *what;
@@ -172,20 +171,25 @@ void measure(const Row &row, std::uint32_t answer) {
             std::abort();
     }
     const auto ns = time<way_count>([&](std::size_t k) { ways[k](row.sheet, strips[k]); });
-    std::printf("%-39s%5zu |%8.0f%8.0f%8.0f%8.0f |", row.what, row.sheet.size(), ns[0], ns[1], ns[2], ns[3]);
-    for (std::size_t plain : {2, 3})
-        std::printf("%8.2f%8.2f", ns[0] / ns[plain], ns[1] / ns[plain]);
+    std::printf("%-39s%5zu |", row.what, row.sheet.size());
+    for (double of_way : ns)
+        std::printf("%8.0f", of_way);
+    std::printf(" |");
+    for (std::size_t plain = route_count; plain < way_count; ++plain)
+        for (std::size_t route = 0; route < route_count; ++route)
+            std::printf("%8.2f", ns[route] / ns[plain]);
     std::printf("\n");
 }
 
 void verdicts(const std::vector<Row> &rows) {
     std::printf("Nanoseconds of a whole verdict, reading and judging: the least of %d rounds of %d calls.\n"
                 "  bytes      length of the sheet\n"
-                "  route 0,1  sheet_verdict of the archive, from task to task, from event to event\n"
+                "  route 0..  sheet_verdict of the archive, from task to task, from event to event, by the fewer\n"
                 "  -O2, -O3   plain C++ that answers the same (reference.cpp), which has no routes, compiled so\n"
                 "  0/-O2 ..   how many times the time of plain C++ a route takes\n",
                 rounds, repeats);
-    const char *const columns = "bytes | route 0 route 1     -O2     -O3 |   0/-O2   1/-O2   0/-O3   1/-O3";
+    const char *const columns = "bytes | route 0 route 1 route 2     -O2     -O3 |"
+                                "   0/-O2   1/-O2   2/-O2   0/-O3   1/-O3   2/-O3";
     std::printf("%-39s%s\n", "Accepted", columns);
     for (const Row &row : rows)
         measure(row, 0);
@@ -314,10 +318,13 @@ bool stacks(const std::vector<Row> &sheets, const std::vector<CallRow> &accepted
                 call_stack[k] = std::max(call_stack[k], stack_of([&row, &outcome, k, room] {
                                              call(k, row, std::min(room, outcome.next.size()), outcome);
                                          }));
-    std::printf("Bytes of stack of a verdict, the most over the accepted: route 0 %zu, route 1 %zu, -O2 %zu, -O3 %zu\n"
-                "Bytes of stack of a call, the most over the accepted: archive %zu, -O2 %zu, -O3 %zu\n",
-                verdict[0], verdict[1], verdict[2], verdict[3], call_stack[0], call_stack[1], call_stack[2]);
-    return verdict[0] <= verdict_stack_limit && verdict[1] <= verdict_stack_limit && call_stack[0] <= call_stack_limit;
+    std::printf(
+        "Bytes of stack of a verdict, the most over the accepted: route 0 %zu, route 1 %zu, route 2 %zu, -O2 %zu, "
+        "-O3 %zu\n"
+        "Bytes of stack of a call, the most over the accepted: archive %zu, -O2 %zu, -O3 %zu\n",
+        verdict[0], verdict[1], verdict[2], verdict[3], verdict[4], call_stack[0], call_stack[1], call_stack[2]);
+    return *std::max_element(verdict, verdict + route_count) <= verdict_stack_limit &&
+           call_stack[0] <= call_stack_limit;
 }
 
 } // namespace
