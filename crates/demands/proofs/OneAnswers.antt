@@ -11,7 +11,7 @@ use Rattle.deadlock.specs.Walk.{Row}
 use Rattle.deadlock.proofs.One.{named-one, ring-in-one}
 use Rattle.hall.proofs.One.{blocked-one, edges-one}
 use Rattle.judge.specs.declared.verdict.Verdict.{Verdict}
-use Rattle.judge.proofs.Named.{task-one, event-one, fewer-one}
+use Rattle.judge.proofs.Named.{task-one, event-one}
 use Rattle.judge.proofs.One.{judged-one}
 use Rattle.text.specs.Text.{textWith}
 use Rattle.text.specs.Verdict.{verdictText}
@@ -99,7 +99,6 @@ one-answer = record {
   judge = (
     λ κ a r r′ e e′. task-one (a .0) r r′,
     λ κ a r r′ e e′. event-one (a .0) r r′,
-    λ κ a r r′ e e′. fewer-one (a .0) r r′,
     λ κ a r r′ e e′. judged-one (a .0) (a .1 .0) r r′,
     λ κ a r r′ e e′. both,
   );
@@ -136,8 +135,7 @@ pub routes-one : One own·routes.Learnt
 routes-one κ a r r′ e e′ p q =
     let tasks = same-members _ (r .tasks) (r′ .tasks) (p .stuck) (q .stuck) in
     let events = sym (p .same) ∙ tasks ∙ q .same in
-    let fewer = sym (p .same-fewer) ∙ tasks ∙ q .same-fewer in
-    λ i. record { tasks = tasks i; events = events i; fewer = fewer i }
+    λ i. record { tasks = tasks i; events = events i }
 
 pub read-one : OneLent (λ κ e. now (e .1 .0)) own·read.Learnt
 read-one κ a r r′ e e′ p q =

@@ -16,10 +16,10 @@ use Rattle.hall.specs.declared.table.Table.{Table}
 use Rattle.states.proofs.Truth.{clash, decide}
 use Rattle.hall.proofs.Soundness.{sound-iff}
 use Rattle.judge.specs.Verdict.{nobody, Judged}
-use Rattle.judge.specs.Routes.{largestRoute, TaskRoute, EventRoute, FewerRoute}
+use Rattle.judge.specs.Routes.{largestRoute, TaskRoute, EventRoute}
 use Rattle.judge.specs.declared.verdict.Verdict.{Verdict}
 use Rattle.judge.proofs.Answers.{Holds, judged-holds, answer-0, answer-41, answer-44}
-use Rattle.judge.proofs.Named.{task-stuck, task-one, event-task, fewer-task}
+use Rattle.judge.proofs.Named.{task-stuck, task-one, event-task}
 use Rattle.demands.specs.Demands.{NamesTheStuck, MeansNever, RoutesAgree, TableJudged}
 use Rattle.demands.specs.Series.{StuckIn, WayOn}
 use Rattle.demands.proofs.Paper.{stuck-iff-deadlocked, stands}
@@ -86,14 +86,13 @@ module _ (t : Table) (z : Shaped t) (route : ℕ) (v : Verdict) (j : Judged t ro
     never = λ e. means-never t z (sound-iff t .0 (judged-sound e .1)) v (holds e);
   }
 
--- ---- the sets that the routes hand back
-module _ (t : Table) (tasks events fewer : ℕ) (x : TaskRoute t tasks) (y : EventRoute t events) (z : FewerRoute t fewer) where
-  agree : RoutesAgree t tasks events fewer
+-- ---- the sets that the two routes hand back
+module _ (t : Table) (tasks events : ℕ) (x : TaskRoute t tasks) (y : EventRoute t events) where
+  agree : RoutesAgree t tasks events
   agree = record {
     same = task-one t tasks events x (event-task t events y);
-    same-fewer = task-one t tasks fewer x (fewer-task t fewer z);
     stuck = λ k. let i = task-stuck t tasks x k in (λ h. stuck-iff t k .1 (i .0 h), λ s. i .1 (stuck-iff t k .0 s));
   }
 
-  pub sets-agree : (l m n : ℕ) → l ≡ tasks → m ≡ events → n ≡ fewer → RoutesAgree t l m n
-  sets-agree l m n p q r = rw (p, q, r) agree
+  pub sets-agree : (m n : ℕ) → m ≡ tasks → n ≡ events → RoutesAgree t m n
+  sets-agree m n p q = rw (p, q) agree

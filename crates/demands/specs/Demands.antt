@@ -136,11 +136,9 @@ pub record MeansNeverOn (sheet : List ℕ) (t : Table) (v : Verdict) : Type 0 wh
   pub never : (k : ℕ) (e : Awaited) → BlockedOn t k e → Has (v .named) k ↔ NeverOn sheet k
   pub way-on : (k : ℕ) (e : Awaited) → BlockedOn t k e → (Has (v .named) k → ⊥) → WayOnFrom sheet k
 
--- "In every sound table the task-to-task route and the event-to-event route name the same tasks"; of route 2 "Demand 3 holds for it too" (document 02,
--- M-101): as the routes hand them back
-pub record RoutesAgree (t : Table) (tasks events fewer : ℕ) : Type 0 where
+-- "In every sound table the task-to-task route and the event-to-event route name the same tasks": as the two routes hand them back
+pub record RoutesAgree (t : Table) (tasks events : ℕ) : Type 0 where
   pub same : tasks ≡ events
-  pub same-fewer : tasks ≡ fewer
   pub stuck : (k : ℕ) → Has tasks k ↔ StuckIn t k
 
 -- ---- what the three say of each verdict that is handed back

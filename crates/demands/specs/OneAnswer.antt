@@ -55,7 +55,6 @@ use Rattle.hall.proofs.table.Table.release.Reads as hall·release
 use Rattle.hall.proofs.table.Table.call.Reads as hall·call
 use Rattle.judge.proofs.task_route.task_route.Reads as judge·task-route
 use Rattle.judge.proofs.event_route.event_route.Reads as judge·event-route
-use Rattle.judge.proofs.fewer_route.fewer_route.Reads as judge·fewer-route
 use Rattle.judge.proofs.judge.judge.Reads as judge·judge
 use Rattle.judge.proofs.verdict.Verdict.nobody.Reads as judge·nobody
 use Rattle.text.proofs.verdict.text_of.Reads as text·text-of
@@ -92,8 +91,7 @@ pub record OneAnswer : Type 1 where
       × One hall·open-task.Learnt × One hall·end-task.Learnt × One hall·open-phaser.Learnt × One hall·close-phaser.Learnt × One hall·admit.Learnt
       × One hall·leave.Learnt × One hall·arrive.Learnt × One hall·wait.Learnt × One hall·wait-at.Learnt × One hall·release.Learnt
       × One hall·call.Learnt
-  pub judge : One judge·task-route.Learnt × One judge·event-route.Learnt × One judge·fewer-route.Learnt × One judge·judge.Learnt
-      × One judge·nobody.Learnt
+  pub judge : One judge·task-route.Learnt × One judge·event-route.Learnt × One judge·judge.Learnt × One judge·nobody.Learnt
   pub text : One text·text-of.Learnt
   pub sheet : One sheet·plain.Learnt × One sheet·number.Learnt × One sheet·rising.Learnt × OneLent (λ κ e. now (e .1 .0)) sheet·read.Learnt
   pub writer : OneLent (λ κ e. now (e .1 .0)) writer·write.Learnt

@@ -1,7 +1,6 @@
 // Demands 2 and 3, of a verdict on a table.
 use hall::table::Table;
 use judge::event_route::event_route;
-use judge::fewer_route::fewer_route;
 use judge::task_route::task_route;
 use judge::verdict::Verdict;
 ghost use mathlib.Core.Path.{_≡_};
@@ -35,19 +34,17 @@ pub fn verdicts(table: Table) -> ByRoute
     }
 }
 
-// Whom each route names.
+// Whom the two routes name.
 pub struct NamedByRoute {
     pub tasks: u32,
     pub events: u32,
-    pub fewer: u32,
 }
 
 pub fn routes(table: Table) -> NamedByRoute
-    ensures { λ r. ⌜ RoutesAgree table (r .tasks) (r .events) (r .fewer) ⌝ }
+    ensures { λ r. ⌜ RoutesAgree table (r .tasks) (r .events) ⌝ }
 {
     NamedByRoute {
         tasks: task_route(table),
         events: event_route(table),
-        fewer: fewer_route(table),
     }
 }

@@ -46,9 +46,6 @@ module _ (t : Table) where
   pub event-one : (a b : ℕ) → EventRoute t a → EventRoute t b → a ≡ b
   event-one a b x y = same-members (EventNamed (BlockedOn t) (Impedes t)) a b (x .iff) (y .iff)
 
-  pub fewer-one : (a b : ℕ) → FewerRoute t a → FewerRoute t b → a ≡ b
-  fewer-one a b x y = task-one a b (fewer-task a x) (fewer-task b y)
-
   -- ---- what is found by one route is found by each
   pub found-named : (route : ℕ) (v : Verdict) → route ≤ largestRoute → (f : Found t route v) → TaskRoute t (f .named)
   found-named zero v l f = f .by-tasks refl

@@ -1,5 +1,4 @@
 use crate::event_route::event_route;
-use crate::fewer_route::fewer_route;
 use crate::ring::ring_of;
 use crate::task_route::task_route;
 use crate::verdict::Verdict;
@@ -8,23 +7,34 @@ use answers::NO_ROUTE;
 use answers::NO_STEP;
 use answers::NOT_SOUND;
 use deadlock::ring::Round;
+use density::events::fewer_events;
 use hall::table::Table;
 ghost use mathlib.Core.Path.{_≡_};
-ghost use Rattle.judge.specs.Parts.{ByRoute};
+ghost use Rattle.judge.specs.Parts.{ByEvents, ByRoute};
 ghost use Rattle.judge.specs.Verdict.{verdictOf, Judged};
 
 // "41 from now on for routes over 2" (document 02, M-101)
 pub const LARGEST_ROUTE: u64 = 2;
 
+// Whether a route goes by events. Each of the two routes is called at one place only: called at two, it would be compiled as a function with a frame of
+// its own.
+fn by_events(table: Table, route: u64) -> bool
+    ensures { λ r. ⌜ ByEvents table route r ⌝ }
+{
+    if route == 2 {
+        fewer_events(table)
+    } else {
+        route == 1
+    }
+}
+
 fn named_by(table: Table, route: u64) -> u32
     ensures { λ r. ⌜ ByRoute table route r ⌝ }
 {
-    if route == 0 {
-        task_route(table)
-    } else if route == 1 {
+    if by_events(table, route) {
         event_route(table)
     } else {
-        fewer_route(table)
+        task_route(table)
     }
 }
 

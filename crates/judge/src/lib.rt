@@ -1,6 +1,5 @@
 // The judge over a table (document 01, 'Stuck' and 'The hall sheet'): three routes, one ring, a verdict.
 pub mod event_route;
-pub mod fewer_route;
 pub mod judge;
 mod ring;
 pub mod task_route;
