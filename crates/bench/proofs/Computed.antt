@@ -31,13 +31,15 @@ use Rattle.hall.proofs.Kept.{call-shaped, call-sound}
 use Rattle.hall.proofs.Every.{every-at}
 use Rattle.hall.proofs.Rows.{row-effect, open-task-row, end-task-row}
 use Rattle.hall.proofs.Soundness.{fresh-shaped, fresh-sound}
-use Rattle.states.specs.Parts.{eventOf}
+use Rattle.states.specs.Parts.{eventOf, sameOf, awaitsOf}
+use Rattle.density.proofs.Decided.{density-one}
+use Rattle.density.proofs.Twins.{countOf, pairsOf, standsAt, impedesAt, joinedAt, impederAt, densityIn, densityIn-counts}
 use Rattle.judge.proofs.One.{routes-agree}
 use Rattle.sets.proofs.Masks.{maskOf}
 use Rattle.judge.proofs.Twins.{rowsOf, namedIn, ringIn, roundIn, judgeOf, judgeOf-judged}
 use Rattle.sheet.specs.Number.{plainAt, numberAt}
-use Rattle.bench.specs.Bench.{Row, judged, called, read, statedOf, Holds, Each, openTask, p4, p7, figure2, section2-4, example4-1}
-use Rattle.bench.specs.Bench.{example4-1-before, example4-2, example4-3, rows}
+use Rattle.bench.specs.Bench.{Row, judged, dense, called, read, statedOf, countsOf, Holds, Each, openTask, p2, p3, p4, p5, p6, p7, p8, p9}
+use Rattle.bench.specs.Bench.{figure2, section2-4, example4-1, example4-1-before, example4-2, example4-3, rows}
 use Rattle.hall.specs.declared.calls.Call.{Call}
 use Rattle.hall.specs.Calls.{call, callOf}
 use Rattle.demands.specs.Series.{Series, after}
@@ -142,11 +144,13 @@ p11-next =
 -- what is computed of a row
 abbrev Computes : Row → Type 0
 Computes (judged t named ring) = judgeOf t 0 ≡ statedOf named ring
+Computes (dense t b e k v x) = densityIn t ≡ countsOf b e k v x
 Computes (called t before c answer val) = Holds (called t before c answer val)
 Computes (read bytes largest got) = Holds (read bytes largest got)
 
 row-holds : (r : Row) → Computes r → Holds r
 row-holds (judged t named ring) e = λ route v l j. routes-agree t route 0 v (judgeOf t 0) l (omega arith) j (judgeOf-judged t 0) ∙ e
+row-holds (dense t b e k v x) q = λ d c. density-one t d (densityIn t) c (densityIn-counts t) ∙ q
 row-holds (called t before c answer val) h = h
 row-holds (read bytes largest got) h = h
 
@@ -160,12 +164,13 @@ abbrev _then_ : {A B : Type 0} → A → B → A × B
 x then y = (x, y)
 
 computed : Each Computes rows
-unfolding rows p4 p7 figure2 section2-4 example4-1 example4-1-before example4-2 example4-3 statedOf judgeOf soundOf entriesSound statesSound every
+unfolding rows p2 p3 p4 p5 p6 p7 p8 p9 figure2 section2-4 example4-1 example4-1-before example4-2 example4-3 statedOf judgeOf soundOf entriesSound statesSound every
     stateAt openAt memberAt phaseAt freshTable withState withEntry withOpen namedIn namedOf clear rowsOf places maskOf impedesOf eventOf roundIn
-    ringIn ringOf nextsOf ringFrom stepOf goOf lowOf onceOf trailingZeros size callOf arriveOf waitAtOf ruled refusalOf arriveTests waitAtTests
+    densityIn countOf pairsOf standsAt impedesAt joinedAt impederAt awaitsOf sameOf ringIn ringOf nextsOf ringFrom stepOf goOf lowOf onceOf trailingZeros size callOf arriveOf waitAtOf ruled refusalOf arriveTests waitAtTests
     memberTests callerTests numberAt plainAt
 computed =
-    refl then refl then refl then refl then refl then refl then refl then refl then refl then (tt, refl, refl) then (tt, refl, refl) then (tt, refl, refl)
+    refl then refl then refl then refl then refl then refl then refl then refl then refl then refl then refl then refl then refl then refl then refl
+    then refl then refl then refl then (tt, refl, refl) then (tt, refl, refl) then (tt, refl, refl)
     then p11-full then p11-next then refl then refl then refl then refl then refl then refl then refl then refl then refl then refl then tt
 
 -- P1 to P12, and the paper's states

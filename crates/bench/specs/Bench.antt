@@ -11,6 +11,8 @@ use Rattle.hall.specs.Table.{joined, freshTable}
 use Rattle.states.specs.Waiting.{awaiting}
 use Rattle.states.specs.declared.state.State.the-variants.{Running}
 use Rattle.hall.specs.declared.table.Table.{Table}
+use Rattle.density.specs.Density.{DensityOf}
+use Rattle.density.specs.declared.density.Density.{Density}
 use Rattle.judge.specs.Routes.{largestRoute}
 use Rattle.judge.specs.Verdict.{Judged}
 use Rattle.judge.specs.declared.verdict.Verdict.{Verdict}
@@ -24,6 +26,8 @@ use Rattle.demands.specs.Series.{Series, after}
 pub data Row : Type 0 where
   -- of a table: whom each route names, and the ring
   judged : Table → List ℕ → List ℕ → Row
+  -- of a table: its blocked tasks, its awaited events, the edges of its task graph, event graph and task-event graph (document 02, M-101)
+  dense : Table → ℕ → ℕ → ℕ → ℕ → ℕ → Row
   -- after a series of calls from a table: a call, its answer and its value
   called : Table → List Call → Call → ℕ → ℕ → Row
   -- of bytes: the number there, up to its field's largest value, and the next place
@@ -42,8 +46,18 @@ statedOf named ring = record {
   ring = ring ++ replicate (32 - length ring) 255;
 }
 
+abbrev pub countsOf : ℕ → ℕ → ℕ → ℕ → ℕ → Density
+countsOf blocked events task-edges event-edges task-event-edges = record {
+  blocked = blocked;
+  events = events;
+  «task_edges» = task-edges;
+  «event_edges» = event-edges;
+  «task_event_edges» = task-event-edges;
+}
+
 abbrev pub Holds : Row → Type 0
 Holds (judged t named ring) = (route : ℕ) (v : Verdict) → route ≤ largestRoute → Judged t route v → v ≡ statedOf named ring
+Holds (dense t b e k v x) = (d : Density) → DensityOf t d → d ≡ countsOf b e k v x
 Holds (called t before c answer val) = Series t before × (callOf (after t before) c .answer ≡ answer) × (callOf (after t before) c .value ≡ val)
 Holds (read bytes largest got) = numberAt bytes largest 0 ≡ got
 
@@ -70,11 +84,37 @@ openTask = call 0 0 0 0
 abbrev pub atPhase : ℕ → Table
 atPhase n = on (runs freshTable 0) 0 0 n
 
+-- "P2 Task 0 waits (0,1); 0: 0@0."
+unfoldable pub p2 : Table
+p2 = on (waits freshTable 0 0 1) 0 0 0
+
+-- "P3 Task 0 waits (0,1); 0: 0@1, 1@0; task 1 runs."
+unfoldable pub p3 : Table
+p3 = on (on (runs (waits freshTable 0 0 1) 1) 0 0 1) 0 1 0
+
+-- "P4 Task 0 waits (0,1), task 1 waits (1,1); 0: 0@1, 1@0; 1: 0@0, 1@1."
 unfoldable pub p4 : Table
 p4 = on (on (on (on (waits (waits freshTable 0 0 1) 1 1 1) 0 0 1) 0 1 0) 1 0 0) 1 1 1
 
+-- "P5 P4 with task 0 at phase 1 on phaser 1."
+unfoldable pub p5 : Table
+p5 = on p4 1 0 1
+
+-- "P6 P4 and task 2 waits (0,1); 0: 2@1."
+unfoldable pub p6 : Table
+p6 = on (waits p4 2 0 1) 0 2 1
+
+-- "P7 Task 0 waits (0,2), task 1 waits (1,1), task 2 runs; 0: 0@2, 1@2, 2@0; 1: 0@0, 1@1, 2@0."
 unfoldable pub p7 : Table
 p7 = on (on (on (on (on (on (runs (waits (waits freshTable 0 0 2) 1 1 1) 2) 0 0 2) 0 1 2) 0 2 0) 1 0 0) 1 1 1) 1 2 0
+
+-- "P8 P7 with task 2 blocked on (2,1); 2: 2@0."
+unfoldable pub p8 : Table
+p8 = on (waits p7 2 2 1) 2 2 0
+
+-- "P9 Task 0 waits (0,1), task 1 waits (1,1), task 2 runs; 0: 0@1, 1@0, 2@0; 1: 1@0."
+unfoldable pub p9 : Table
+p9 = on (on (on (on (runs (waits (waits freshTable 0 0 1) 1 1 1) 2) 0 0 1) 0 1 0) 0 2 0) 1 1 0
 
 -- ---- source document 000: its task t3 is task 3 here; its phasers a, p and p_c are phaser 0, b, q and p_f phaser 1
 -- figure 2: t4 waits on a³ and t5 on b¹; t4 has reached a³ and b⁰, t5 a¹ and b¹
@@ -110,22 +150,31 @@ unfoldable pub rows : List Row
 rows =
     -- P1 Fresh table: nobody.
     judged freshTable [] []
-    -- P2 Task 0 waits (0,1); 0: 0@0. Named 0, ring 0.
-    ∷ judged (on (waits freshTable 0 0 1) 0 0 0) (0 ∷ []) (0 ∷ [])
-    -- P3 Task 0 waits (0,1); 0: 0@1, 1@0; task 1 runs. Nobody.
-    ∷ judged (on (on (runs (waits freshTable 0 0 1) 1) 0 0 1) 0 1 0) [] []
-    -- P4 Task 0 waits (0,1), task 1 waits (1,1); 0: 0@1, 1@0; 1: 0@0, 1@1. Named 0 1, ring 0 1.
+    ∷ dense freshTable 0 0 0 0 0
+    -- P2 Named 0, ring 0.
+    ∷ judged p2 (0 ∷ []) (0 ∷ [])
+    ∷ dense p2 1 1 1 1 2
+    -- P3 Nobody.
+    ∷ judged p3 [] []
+    ∷ dense p3 1 1 0 0 1
+    -- P4 Named 0 1, ring 0 1.
     ∷ judged p4 (0 ∷ 1 ∷ []) (0 ∷ 1 ∷ [])
-    -- P5 P4 with task 0 at phase 1 on phaser 1. Nobody: task 1's wait is met.
-    ∷ judged (on p4 1 0 1) [] []
-    -- P6 P4 and task 2 waits (0,1); 0: 2@1. Named 0 1 2, ring 0 1.
-    ∷ judged (on (waits p4 2 0 1) 0 2 1) (0 ∷ 1 ∷ 2 ∷ []) (0 ∷ 1 ∷ [])
-    -- P7 Task 0 waits (0,2), task 1 waits (1,1), task 2 runs; 0: 0@2, 1@2, 2@0; 1: 0@0, 1@1, 2@0. Nobody.
+    ∷ dense p4 2 2 2 2 4
+    -- P5 Nobody: task 1's wait is met.
+    ∷ judged p5 [] []
+    ∷ dense p5 2 2 1 1 3
+    -- P6 Named 0 1 2, ring 0 1.
+    ∷ judged p6 (0 ∷ 1 ∷ 2 ∷ []) (0 ∷ 1 ∷ [])
+    ∷ dense p6 3 2 3 2 5
+    -- P7 Nobody.
     ∷ judged p7 [] []
-    -- P8 P7 with task 2 blocked on (2,1); 2: 2@0. Named 0 1 2, ring 2.
-    ∷ judged (on (waits p7 2 2 1) 2 2 0) (0 ∷ 1 ∷ 2 ∷ []) (2 ∷ [])
-    -- P9 Task 0 waits (0,1), task 1 waits (1,1), task 2 runs; 0: 0@1, 1@0, 2@0; 1: 1@0. Named 0 1, ring 1.
-    ∷ judged (on (on (on (on (runs (waits (waits freshTable 0 0 1) 1 1 1) 2) 0 0 1) 0 1 0) 0 2 0) 1 1 0) (0 ∷ 1 ∷ []) (1 ∷ [])
+    ∷ dense p7 2 2 1 1 3
+    -- P8 Named 0 1 2, ring 2.
+    ∷ judged p8 (0 ∷ 1 ∷ 2 ∷ []) (2 ∷ [])
+    ∷ dense p8 3 3 4 4 7
+    -- P9 Named 0 1, ring 1.
+    ∷ judged p9 (0 ∷ 1 ∷ []) (1 ∷ [])
+    ∷ dense p9 2 2 2 2 4
     -- P10 Arriving from 65,534 gives 65,535; from 65,535 it is 15. Waiting at 65,536 is 15.
     ∷ called (atPhase 65534) [] (call 6 0 0 0) done 65535
     ∷ called (atPhase 65535) [] (call 6 0 0 0) phaseTooLarge 0
