@@ -87,7 +87,7 @@ bytesAfter = 35
 abbrev pub notOpen : ℕ
 notOpen = 36
 
--- 40 / 41: answer strip under 38 bytes / route not 0 or 1
+-- 40 / 41: answer strip under 38 bytes / route over 2 (document 02, M-101)
 abbrev pub shortStrip : ℕ
 shortStrip = 40
 

@@ -61,7 +61,7 @@ pub const BYTES_AFTER: u32 = 35;
 // sheet speaks of a phaser that isn't open
 pub const NOT_OPEN: u32 = 36;
 
-// answer strip under 38 bytes / route not 0 or 1
+// answer strip under 38 bytes / route over 2 (document 02, M-101)
 pub const SHORT_STRIP: u32 = 40;
 
 pub const NO_ROUTE: u32 = 41;
