@@ -1,0 +1,4 @@
+pub mod Pieces
+pub mod Counts
+pub mod Added
+pub mod Examples

@@ -1,0 +1,78 @@
+-- What comes next, case by case; and so many bytes settle it.
+use Prim.Native.Nat.{ℕ, suc, _+_, _≤_, _<_}
+use mathlib.Core.Path.{_≡_, refl, sym, ap, _∙_}
+use mathlib.Core.List.{List}
+use mathlib.Core.Bool.{Bool, true, false}
+use native.Mathlib.Omega.{arith}
+use lib.Dec.{eqb, leb}
+use lib.ListN.{length, take, length-take}
+use borrow.Author.Tests.{eq-eqb, ne-eqb, le-leb, lt-leb, eqb-true, eqb-false, leb-true, leb-false}
+use Rattle.answers.specs.Answers.{endsInside, bytesAfter}
+use Rattle.sheet.specs.Figures.{further}
+use Rattle.sheet.specs.Got.{Got, value, refused}
+use Rattle.sheet.specs.Number.{numberAt}
+use Rattle.sheet.proofs.Same.{same-holds}
+use Rattle.sheet.proofs.Numbers.{Bytes, number-ok}
+use Rattle.sheet.proofs.Settled.{number-settled}
+use Rattle.sheet_file.specs.Piece.{mostSheets, largestLength, settlingWindow, afterLength, pieceOf}
+use Rattle.sheet_file.specs.declared.piece.Piece.{Piece}
+use Rattle.sheet_file.specs.declared.piece.Piece.the-variants.{Sheet, Stopped, Ended}
+
+-- a length that was read, and its bytes
+pub length-read : (s : List ℕ) → Bytes s → (m at : ℕ) {n next : ℕ} → numberAt s m at ≡ value n next → (n ≤ m) × (next ≤ at + suc further)
+length-read s b m at e = let r = same-holds (number-ok s b m at) e in (r .most, omega (arith, r .place, r .short))
+
+module _ (bytes : List ℕ) (done : ℕ) where
+  pub piece-ended : length bytes ≡ 0 → Ended ≡ pieceOf bytes done
+  unfolding pieceOf
+  piece-ended e = rw (eq-eqb (length bytes) 0 e) refl
+
+  module _ (some : 0 < length bytes) where
+    pub piece-over : (n : ℕ) → n ≡ bytesAfter → mostSheets ≤ done → Stopped n ≡ pieceOf bytes done
+    unfolding pieceOf
+    piece-over n e h = rw (ne-eqb (length bytes) 0 (λ z. omega arith), le-leb mostSheets done h, e) refl
+
+    module _ (h : done < mostSheets) where
+      -- after the length
+      on : {g : Got ℕ} → numberAt bytes largestLength 0 ≡ g → pieceOf bytes done ≡ afterLength bytes g
+      unfolding pieceOf
+      on e = rw (ne-eqb (length bytes) 0 (λ z. omega arith), lt-leb mostSheets done h, e) refl
+
+      pub piece-refused : {n : ℕ} → numberAt bytes largestLength 0 ≡ refused n → Stopped n ≡ pieceOf bytes done
+      piece-refused e = sym (on e)
+
+      module _ {n at : ℕ} (e : numberAt bytes largestLength 0 ≡ value n at) where
+        pub piece-sheet : (to : ℕ) → to ≡ at + n → at + n ≤ length bytes → Sheet at to ≡ pieceOf bytes done
+        piece-sheet to q f = rw q (sym (on e ∙ rw (le-leb (at + n) (length bytes) f) refl))
+
+        pub piece-past : (m : ℕ) → m ≡ endsInside → length bytes < at + n → Stopped m ≡ pieceOf bytes done
+        piece-past m q f = rw q (sym (on e ∙ rw (lt-leb (at + n) (length bytes) f) refl))
+
+-- ---- so many bytes settle what comes next: the file's first n, n being settlingWindow or more
+same-test : (a b : ℕ) → (a ≡ 0 → b ≡ 0) → (b ≡ 0 → a ≡ 0) → eqb a 0 ≡ eqb b 0
+same-test a b f g = go (eqb a 0) refl
+  where
+    go : (e : Bool) → eqb a 0 ≡ e → eqb a 0 ≡ eqb b 0
+    go true e = e ∙ sym (eq-eqb b 0 (f (eqb-true a 0 e)))
+    go false e = e ∙ sym (ne-eqb b 0 (λ z. eqb-false a 0 e (g z)))
+
+module _ (bytes : List ℕ) (eight : Bytes bytes) (n : ℕ) (wide : settlingWindow ≤ n) where
+  after-settled : (g : Got ℕ) → numberAt bytes largestLength 0 ≡ g → afterLength (take n bytes) g ≡ afterLength bytes g
+  after-settled (refused m) e = refl
+  after-settled (value m at) e = go (leb (at + m) (length bytes)) refl
+    where
+      go : (b : Bool) → leb (at + m) (length bytes) ≡ b → afterLength (take n bytes) (value m at) ≡ afterLength bytes (value m at)
+      go true t =
+          let r = length-read bytes eight largestLength 0 e in
+          let h = leb-true (at + m) (length bytes) t in
+          rw (t, le-leb (at + m) (length (take n bytes)) (omega (arith, length-take n bytes))) refl
+      go false t =
+          let h = leb-false (at + m) (length bytes) t in
+          rw (t, lt-leb (at + m) (length (take n bytes)) (omega (arith, length-take n bytes))) refl
+
+  pub piece-settled : (done : ℕ) → pieceOf (take n bytes) done ≡ pieceOf bytes done
+  unfolding pieceOf
+  piece-settled done =
+      let long = length-take n bytes in
+      let none = same-test (length (take n bytes)) (length bytes) (λ z. omega arith) (λ z. omega arith) in
+      rw (none, ← number-settled bytes eight n largestLength 0 (omega arith), after-settled (numberAt bytes largestLength 0) refl) refl

@@ -1,0 +1,3 @@
+pub mod Piece
+pub mod Counted
+pub mod Totals
