@@ -2,4 +2,5 @@ pub mod Said
 pub mod Decimals
 pub mod Lines
 pub mod Whole
+pub mod Wordings
 pub mod Examples

@@ -28,7 +28,7 @@ decimal-short : (n k : ℕ) → n < 10 ^ suc k → length (decimal n) ≤ suc k
 unfolding decimal
 decimal-short n k h = digits-short 20 n k h
 
-number-short : (n k : ℕ) → n < 10 ^ suc k → length (numbered (n ∷ [])) ≤ k + 2
+pub number-short : (n k : ℕ) → n < 10 ^ suc k → length (numbered (n ∷ [])) ≤ k + 2
 number-short n k h = let r = decimal-short n k h in rw numbered-one (omega arith)
 
 tasks-short : (m n : ℕ) → n ≤ 32 → length (numbered (tasksIn m n)) ≤ 3 * n

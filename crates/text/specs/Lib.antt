@@ -1,3 +1,4 @@
 pub mod Text
 pub mod Verdict
+pub mod Density
 pub mod Parts

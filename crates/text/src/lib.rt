@@ -1,2 +1,3 @@
+pub mod densities;
 pub mod text;
 pub mod verdict;

@@ -1,0 +1,26 @@
+-- The lines of a file of sheets: a word and its number has 22 bytes beside the word at most; a sheet's line, accepted or refused.
+use mathlib.Core.Path.{_≡_, refl}
+use mathlib.Core.List.{List, [], _∷_, _++_}
+use Prim.Native.Nat.{ℕ, _+_, _^_, _≤_, _<_}
+use native.Mathlib.Omega.{arith}
+use lib.ListN.{length, length-append}
+use borrow.Author.Tests.{eq-eqb, ne-eqb}
+use Rattle.answers.specs.Answers.{done}
+use Rattle.sheet_file.specs.declared.counted.Counted.{Counted}
+use Rattle.text.specs.Density.{sheetWord, refusedWord, worded, densityWords, sheetLine}
+use Rattle.text.specs.Text.{numbered}
+use Rattle.text.proofs.Whole.{number-short}
+
+pub worded-short : (word : List ℕ) (n : ℕ) → n < 2 ^ 64 → length (worded word n) ≤ length word + 22
+unfolding worded
+worded-short word n h = let s = number-short n 19 (omega arith) in rw length-append (omega arith)
+
+module _ (nth : ℕ) (c : Counted) where
+  pub line-accepted : c .answer ≡ done → sheetLine nth c ≡ (sheetWord ++ numbered (nth ∷ [])) ++ (densityWords (c .density) ++ (10 ∷ []))
+  unfolding sheetLine
+  line-accepted e = rw (eq-eqb (c .answer) done e) refl
+
+  pub line-refused : (c .answer ≡ done → ⊥)
+      → sheetLine nth c ≡ (sheetWord ++ numbered (nth ∷ [])) ++ (worded refusedWord (c .answer) ++ (10 ∷ []))
+  unfolding sheetLine
+  line-refused e = rw (ne-eqb (c .answer) done e) refl

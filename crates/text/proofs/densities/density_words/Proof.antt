@@ -1,0 +1,65 @@
+use borrow.Author.Needs.{needs}
+use native.Mathlib.Omega.{arith}
+use lib.ListN.{length-append}
+use Rattle.text.specs.Density.{densityWords}
+use Rattle.text.proofs.Said.{adds-both}
+use Rattle.text.proofs.densities.density_words.Statement.{statement}
+use Rattle.text.proofs.densities.density_words.Tie as tie
+
+slice-aggregate-worded : tie.Need-slice-aggregate-worded
+slice-aggregate-worded c = search needs
+
+worded-requires : tie.Need-worded-requires
+worded-requires c κs = search needs
+
+slice-aggregate-worded-2 : tie.Need-slice-aggregate-worded-2
+slice-aggregate-worded-2 c = search needs
+
+worded-requires-2 : tie.Need-worded-requires-2
+worded-requires-2 c κs = search needs
+
+slice-aggregate-worded-3 : tie.Need-slice-aggregate-worded-3
+slice-aggregate-worded-3 c = search needs
+
+worded-requires-3 : tie.Need-worded-requires-3
+worded-requires-3 c κs = search needs
+
+slice-aggregate-worded-4 : tie.Need-slice-aggregate-worded-4
+slice-aggregate-worded-4 c = search needs
+
+worded-requires-4 : tie.Need-worded-requires-4
+worded-requires-4 c κs = search needs
+
+slice-aggregate-worded-5 : tie.Need-slice-aggregate-worded-5
+slice-aggregate-worded-5 c = search needs
+
+worded-requires-5 : tie.Need-worded-requires-5
+worded-requires-5 c κs = search needs
+
+returns : tie.Need-returns
+unfolding densityWords
+returns c =
+    let blocked = c .before .before .before .before .before .before .before .before .worded .ensures in
+    let events = c .before .before .before .before .before .before .worded2 .ensures in
+    let tasks = c .before .before .before .before .worded3 .ensures in
+    let edges = c .before .before .worded4 .ensures in
+    let both = c .worded5 .ensures in (
+      adds-both (blocked .0) (adds-both (events .0) (adds-both (tasks .0) (adds-both (edges .0) (both .0)))),
+      simp length-append (omega (arith, blocked .1, events .1, tasks .1, edges .1, both .1)),
+    )
+
+pub density-words-spec : {M : Type 1} → statement M
+density-words-spec =
+    tie.close
+    (tie.spec
+    slice-aggregate-worded
+    worded-requires
+    slice-aggregate-worded-2
+    worded-requires-2
+    slice-aggregate-worded-3
+    worded-requires-3
+    slice-aggregate-worded-4
+    worded-requires-4
+    slice-aggregate-worded-5
+    worded-requires-5
+    returns)
