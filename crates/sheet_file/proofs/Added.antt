@@ -12,7 +12,7 @@ use Rattle.sheet_file.specs.declared.counted.Counted.{Counted}
 use Rattle.sheet_file.specs.declared.totals.Totals.{Totals}
 use Rattle.sheet_file.specs.Piece.{mostSheets}
 use Rattle.sheet_file.specs.Counted.{noDensity}
-use Rattle.sheet_file.specs.Totals.{noTotals, sum, sumOfDensities, withAccepted, withRefused, totalsWith, totalsAfter, exactTotals}
+use Rattle.sheet_file.specs.Totals.{noTotals, sum, doneOf, sumOfDensities, withAccepted, withRefused, totalsWith, totalsAfter, exactTotals}
 use Rattle.sheet_file.specs.Totals.{addedUp, ofAccepted, ofRefused}
 use Rattle.sheet_file.proofs.Counts.{same-density, same-totals}
 
@@ -119,6 +119,5 @@ all-counted (c ∷ l) =
     one-more (eqb (c .answer) done) (addedUp (ofAccepted (λ d. 1)) l) (addedUp ofRefused l) (length l) (all-counted l)
 
 -- so many sheets there were
-pub done-exact : (l : List Counted) → length l ≤ mostSheets → AllSmall l
-    → sum (totalsAfter noTotals l .sheets) (totalsAfter noTotals l .refused) ≡ length l
+pub done-exact : (l : List Counted) → length l ≤ mostSheets → AllSmall l → doneOf (totalsAfter noTotals l) ≡ length l
 done-exact l few small = rw (totals-exact l few small) (let e = all-counted l in omega arith)

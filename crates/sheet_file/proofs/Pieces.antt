@@ -2,7 +2,7 @@
 use Prim.Native.Nat.{ℕ, suc, _+_, _≤_, _<_}
 use mathlib.Core.Path.{_≡_, refl, sym, ap, _∙_}
 use mathlib.Core.List.{List}
-use mathlib.Core.Bool.{Bool, true, false}
+use mathlib.Core.Bool.{Bool, true, false, cond}
 use native.Mathlib.Omega.{arith}
 use lib.Dec.{eqb, leb}
 use lib.ListN.{length, take, length-take}
@@ -47,6 +47,38 @@ module _ (bytes : List ℕ) (done : ℕ) where
 
         pub piece-past : (m : ℕ) → m ≡ endsInside → length bytes < at + n → Stopped m ≡ pieceOf bytes done
         piece-past m q f = rw q (sym (on e ∙ rw (lt-leb (at + n) (length bytes) f) refl))
+
+-- a sheet that comes next is one of the thousand, and stands in the file
+pub record Within (bytes : List ℕ) (done from to : ℕ) : Type 0 where
+  pub rises : from ≤ to
+  pub ends : to ≤ length bytes
+  pub few : done < mostSheets
+
+pub sheet-within : (bytes : List ℕ) (done : ℕ) {from to : ℕ} → pieceOf bytes done ≡ Sheet from to → Within bytes done from to
+unfolding pieceOf
+sheet-within bytes done {from} {to} e = none (eqb (length bytes) 0) e
+  where
+    after : (g : Got ℕ) → done < mostSheets → afterLength bytes g ≡ Sheet from to → Within bytes done from to
+    after (refused n) few e = absurd (let z : _≡_ {A = ℕ} 0 1 = cc in omega arith)
+    after (value n at) few e = inside (leb (at + n) (length bytes)) refl e
+      where
+        inside : (b : Bool) → leb (at + n) (length bytes) ≡ b → cond b (Sheet at (at + n)) (Stopped endsInside) ≡ Sheet from to
+            → Within bytes done from to
+        inside true h e =
+            let x : at ≡ from = cc in
+            let y : at + n ≡ to = cc in
+            record { rises = omega arith; ends = omega (arith, leb-true (at + n) (length bytes) h); few = few }
+        inside false h e = absurd (let z : _≡_ {A = ℕ} 0 1 = cc in omega arith)
+
+    over : (b : Bool) → leb mostSheets done ≡ b → cond b (Stopped bytesAfter) (afterLength bytes (numberAt bytes largestLength 0)) ≡ Sheet from to
+        → Within bytes done from to
+    over true h e = absurd (let z : _≡_ {A = ℕ} 0 1 = cc in omega arith)
+    over false h e = after (numberAt bytes largestLength 0) (leb-false mostSheets done h) e
+
+    none : (b : Bool) → cond b Ended (cond (leb mostSheets done) (Stopped bytesAfter) (afterLength bytes (numberAt bytes largestLength 0))) ≡ Sheet from to
+        → Within bytes done from to
+    none true e = absurd (let z : _≡_ {A = ℕ} 0 1 = cc in omega arith)
+    none false e = over (leb mostSheets done) refl e
 
 -- ---- so many bytes settle what comes next: the file's first n, n being settlingWindow or more
 same-test : (a b : ℕ) → (a ≡ 0 → b ≡ 0) → (b ≡ 0 → a ≡ 0) → eqb a 0 ≡ eqb b 0

@@ -16,6 +16,10 @@ noTotals = record { sheets = 0; refused = 0; density = noDensity }
 abbrev pub sum : ℕ → ℕ → ℕ
 sum a b = (a + b) % 2 ^ 64
 
+-- how many sheets there were
+abbrev pub doneOf : Totals → ℕ
+doneOf t = sum (t .sheets) (t .refused)
+
 abbrev pub sumOfDensities : Density → Density → Density
 sumOfDensities a b = record {
   blocked = sum (a .blocked) (b .blocked);

@@ -1,6 +1,6 @@
 // The totals over the sheets of a file. The sums wrap, so that nothing is asked of a caller; over a file's sheets they are exact (`totals-exact`).
 ghost use mathlib.Core.Path.{_≡_};
-ghost use Rattle.sheet_file.specs.Totals.{noTotals, sum, totalsWith, sumOfDensities};
+ghost use Rattle.sheet_file.specs.Totals.{noTotals, doneOf, sumOfDensities, totalsWith};
 use crate::counted::Counted;
 use density::density::Density;
 use std::num::wrapping_add_u64;
@@ -62,7 +62,7 @@ impl Totals {
 
     // How many sheets there were.
     pub fn done(self) -> u64
-        ensures { λ r. ⌜ r ≡ sum (self .sheets) (self .refused) ⌝ }
+        ensures { λ r. ⌜ r ≡ doneOf self ⌝ }
     {
         wrapping_add_u64(self.sheets, self.refused)
     }
