@@ -12,4 +12,5 @@ pub mod SheetSeries
 pub mod OfSheets
 pub mod OfSheetCalls
 pub mod OfTables
+pub mod OfFiles
 pub mod OneAnswers

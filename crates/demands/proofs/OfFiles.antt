@@ -1,0 +1,92 @@
+-- The demands of a step over a file of sheets, by what comes next.
+use mathlib.Core.Path.{_≡_, refl, sym, ap, subst, _∙_}
+use mathlib.Core.Logic.{_↔_}
+use mathlib.Core.Bool.{true, false}
+use mathlib.Core.List.{List}
+use Prim.Native.Nat.{ℕ, _+_, _-_, _≤_}
+use native.Mathlib.Omega.{arith}
+use lib.ListN.{length, take, drop, length-take}
+use lib.Seq.{take-add, take-take, drop-at, length-take-le}
+use Rattle.sheet_file.specs.Counted.{CountedOf}
+use Rattle.sheet.proofs.Numbers.{Bytes}
+use Rattle.sheet_file.specs.Piece.{settlingWindow, pieceOf}
+use Rattle.sheet_file.specs.Totals.{doneOf, totalsWith}
+use Rattle.sheet_file.specs.declared.counted.Counted.{Counted}
+use Rattle.sheet_file.specs.declared.piece.Piece.{Piece}
+use Rattle.sheet_file.specs.declared.piece.Piece.the-variants.{Sheet, Stopped, Ended}
+use Rattle.sheet_file.proofs.Pieces.{sheet-within, piece-settled}
+use Rattle.sheet_file.specs.declared.totals.Totals.{Totals}
+use Rattle.text.specs.Density.{sheetLine}
+use Rattle.text.specs.Text.{textWith}
+use Rattle.text.specs.declared.text.Text.{Text}
+use Rattle.text.proofs.Said.{said-whole}
+use Rattle.demands.specs.Densities.{LinePrinted, LastStep, SheetStep, bytesFrom, StepBy, StepTaken}
+use Rattle.demands.specs.declared.densities.Step.{Step}
+
+printed : (line : List ℕ) (text : Text) → text ≡ textWith line → length line ≤ 256 → LinePrinted line text
+printed line text is short = record { is = is; whole = said-whole text line is short }
+
+-- a part of a list, as it is lent and as it is said
+lent-part : (bytes : List ℕ) (from to : ℕ) → from ≤ to → to ≤ length bytes → take (to - from) (drop from bytes) ≡ bytesFrom bytes from to
+lent-part bytes from to h l =
+    let e : to ≡ from + (to - from) = omega arith in
+    sym
+    (ap (λ n. drop from (take n bytes)) e
+    ∙ ap (drop from) (take-add from (to - from) bytes)
+    ∙ drop-at (take from bytes) (take (to - from) (drop from bytes)) from (length-take-le from bytes (omega arith)))
+
+-- what a step takes stands in the file
+inside : (bytes : List ℕ) (before : Totals) (s : Step) (p : Piece) → p ≡ pieceOf bytes (doneOf before) → StepBy bytes before s p
+    → s .taken ≤ length bytes
+inside bytes before s Ended e h = rw (h .taken) (omega arith)
+inside bytes before s (Stopped n) e h = rw (h .taken) (omega arith)
+inside bytes before s (Sheet from to) e h = rw (h .taken) (sheet-within bytes (doneOf before) (sym e) .ends)
+
+pub step-by : (bytes : List ℕ) (before : Totals) (s : Step) (p : Piece) → p ≡ pieceOf bytes (doneOf before) → StepBy bytes before s p
+    → StepTaken bytes before s
+step-by bytes before s p e h =
+    record { is = subst (StepBy bytes before s) e h; within = inside bytes before s p e h }
+
+pub last-step : (line : List ℕ) (before : Totals) (text : Text) {taken : ℕ} → text ≡ textWith line → length line ≤ 256 → taken ≡ 0
+    → LastStep line before (record { text = text; totals = before; taken = taken; ended = true })
+last-step line before text is short none = record { prints = printed line text is short; totals = refl; taken = none; ended = refl }
+
+module _ (bytes : List ℕ) (before : Totals) (c : Counted) {from to nth taken : ℕ} {text : Text} {totals : Totals} where
+  pub sheet-step : CountedOf (take (to - from) (drop from bytes)) c → from ≤ to → to ≤ length bytes → text ≡ textWith (sheetLine nth c)
+      → length (sheetLine nth c) ≤ 256 → nth ≡ doneOf before + 1 → totals ≡ totalsWith before c → taken ≡ to
+      → SheetStep (bytesFrom bytes from to) before to (record { text = text; totals = totals; taken = taken; ended = false })
+  sheet-step counts h l is short next sums all = record {
+    counted = c;
+    counts = rw (← lent-part bytes from to h l) counts;
+    prints = rw (← next) (printed (sheetLine nth c) text is short);
+    totals = sums;
+    taken = all;
+    ended = refl;
+  }
+
+-- ---- a window of the file is as good as all of it
+same-by : (a b : List ℕ) (before : Totals) (s : Step) (p : Piece)
+    → ((from to : ℕ) → p ≡ Sheet from to → bytesFrom a from to ≡ bytesFrom b from to) → StepBy a before s p → StepBy b before s p
+same-by a b before s Ended same h = h
+same-by a b before s (Stopped n) same h = h
+same-by a b before s (Sheet from to) same h = subst (λ sheet. SheetStep sheet before to s) (same from to refl) h
+
+module _ (before : Totals) (s : Step) where
+  -- what comes next is the same in both, and so are its bytes
+  same-step : (a b : List ℕ) → pieceOf a (doneOf before) ≡ pieceOf b (doneOf before)
+      → ((from to : ℕ) → pieceOf a (doneOf before) ≡ Sheet from to → bytesFrom a from to ≡ bytesFrom b from to)
+      → StepTaken a before s → StepTaken b before s
+  same-step a b e same h = step-by b before s _ e (same-by a b before s (pieceOf a (doneOf before)) same (h .is))
+
+  module _ (bytes : List ℕ) (eight : Bytes bytes) (n : ℕ) (wide : settlingWindow ≤ n) where
+    same-bytes : (from to : ℕ) → pieceOf (take n bytes) (doneOf before) ≡ Sheet from to → bytesFrom (take n bytes) from to ≡ bytesFrom bytes from to
+    same-bytes from to e =
+        let w = sheet-within (take n bytes) (doneOf before) e in
+        ap (drop from) (take-take to n bytes (omega (arith, w .ends, length-take n bytes)))
+
+    pub step-settled : StepTaken (take n bytes) before s ↔ StepTaken bytes before s
+    step-settled =
+        let settled = piece-settled bytes eight n wide (doneOf before) in (
+          same-step (take n bytes) bytes settled same-bytes,
+          same-step bytes (take n bytes) (sym settled) (λ from to e. sym (same-bytes from to (settled ∙ e))),
+        )
