@@ -63,7 +63,8 @@ module _ (set : ℕ) (E : ℕ → ℕ → Type 0) where
       pub tally-less : rest < left
       tally-less = lowest-less (g .fits) some low rest f taken
 
-      pub tally-more : (row n more : ℕ) → n ≡ size row 32 → more ≡ edges + n → row < 2 ^ 32 → ((u : ℕ) → Has row u ↔ E k u) → Tallied rest more
+      pub tally-more : (row n more : ℕ) → n ≡ size row 32 → more ≡ edges + n → row < 2 ^ 32 → ((u : ℕ) → Has row u ↔ E k u)
+          → Tallied rest more
       tally-more row n more e s fits iff = rw s (record {
         fits = f;
         within = λ j r. g .within j (taken j .0 r .0);
