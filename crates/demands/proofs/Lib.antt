@@ -13,4 +13,5 @@ pub mod OfSheets
 pub mod OfSheetCalls
 pub mod OfTables
 pub mod OfFiles
+pub mod OneStep
 pub mod OneAnswers

@@ -1,4 +1,4 @@
--- What is handed back for a table that is written, and for a sheet that is read and written again.
+-- What is handed back for a table that is written or counted, and for a sheet that is read and written again.
 use mathlib.Core.Path.{_≡_, refl, sym, ap, subst, _∙_}
 use mathlib.Core.List.{List}
 use Prim.Native.Nat.{ℕ, _≤_, _<_}
@@ -12,6 +12,10 @@ use Rattle.sheet.specs.Reader.{Sheet, hands, sheetAt}
 use Rattle.sheet.proofs.Numbers.{Bytes}
 use Rattle.writer.specs.Writer.{Wrote, wrote, writeOf}
 use Rattle.writer.proofs.Theorems as writer
+use Rattle.density.specs.Density.{DensityOf}
+use Rattle.density.specs.declared.density.Density.{Density}
+use Rattle.density.proofs.Many.{many-same}
+use Rattle.demands.specs.Densities.{TableCounted}
 use Rattle.demands.specs.Demands.{TableWritten, SheetRewritten}
 
 -- ---- a table
@@ -61,3 +65,13 @@ rewritten-one sheet b answer value answer′ value′ after after′ p q = go (�
     go (no n) l = p .fault n ∙ sym (q .fault n)
     go (yes d) (yes l) = p .short d l ∙ sym (q .short d l)
     go (yes d) (no l) = let room : length sheet ≤ length b = omega arith in p .same d room ∙ sym (q .same d room)
+
+-- ---- how dense a table is
+pub table-counted : (t : Table) (d : Density) → DensityOf t d → TableCounted t d
+table-counted t d x = record {
+  is = x;
+  fewer = (
+    λ f. let p = many-same (x .blocked) (f .blocked) in let q = many-same (x .events) (f .awaited) in omega (arith, f .fewer),
+    λ l. record { tasks = d .blocked; events = d .events; blocked = x .blocked; awaited = x .events; fewer = l },
+  );
+}

@@ -10,6 +10,8 @@ use Rattle.deadlock.specs.Ring.{Next}
 use Rattle.deadlock.specs.Walk.{Row}
 use Rattle.deadlock.proofs.One.{named-one, ring-in-one}
 use Rattle.hall.proofs.One.{blocked-one, edges-one}
+use Rattle.density.specs.Density.{FewerEvents}
+use Rattle.density.proofs.Decided.{density-one}
 use Rattle.judge.specs.declared.verdict.Verdict.{Verdict}
 use Rattle.judge.proofs.Named.{task-one, event-one}
 use Rattle.judge.proofs.One.{judged-one}
@@ -17,12 +19,16 @@ use Rattle.text.specs.Text.{textWith}
 use Rattle.text.specs.Verdict.{verdictText}
 use Rattle.sheet.specs.Reader.{Sheet}
 use Rattle.sheet.proofs.Theorems.{one-number}
+use Rattle.sheet_file.proofs.One.{counted-one}
 use Rattle.writer.proofs.Theorems.{written-one}
 use Rattle.sheet_call.proofs.Theorems.{handed-one}
 use Rattle.mollavisce.proofs.One.{sheet-judged-one, entered-one}
 use Rattle.demands.specs.OneAnswer.{One, OneLent, OneAnswer}
 use Rattle.demands.proofs.OfTables.{rewritten-one}
+use Rattle.demands.proofs.OneStep.{step-one}
 use Rattle.demands.proofs.calls.call.Reads as own·call
+use Rattle.demands.proofs.densities.density_of.Reads as own·density-of
+use Rattle.demands.proofs.densities.next_step.Reads as own·next-step
 use Rattle.demands.proofs.judging.judge.Reads as own·judge
 use Rattle.demands.proofs.judging.verdicts.Reads as own·verdicts
 use Rattle.demands.proofs.judging.routes.Reads as own·routes
@@ -96,18 +102,34 @@ one-answer = record {
     λ κ a r r′ e e′. both,
     λ κ a r r′ e e′. both,
   );
+  density = (
+    λ κ a r r′ e e′. density-one (a .0) r r′,
+    λ κ a r r′ e e′. has-one (FewerEvents (a .0)) r r′,
+  );
   judge = (
     λ κ a r r′ e e′. task-one (a .0) r r′,
     λ κ a r r′ e e′. event-one (a .0) r r′,
     λ κ a r r′ e e′. judged-one (a .0) (a .1 .0) r r′,
     λ κ a r r′ e e′. both,
   );
-  text = λ κ a r r′ e e′ p q. both (p .0) (q .0);
+  text = (
+    λ κ a r r′ e e′ p q. both (p .0) (q .0),
+    λ κ a r r′ e e′ p q. both (p .0) (q .0),
+    λ κ a r r′ e e′ p q. both (p .0) (q .0),
+    λ κ a r r′ e e′ p q. both (p .0) (q .0),
+  );
   sheet = (
     λ κ a r r′ e e′ p q. one-number r r′ (both p q),
     λ κ a r r′ e e′ p q. one-number r r′ (both p q),
     λ κ a r r′ e e′ p q. one-number r r′ (both p q),
     λ κ a r r′ e e′ p q. (ap (λ (s : Sheet). s .table) (both p q), ap (λ (s : Sheet). s .answer) (both p q)),
+  );
+  sheet-file = (
+    λ κ a r r′ e e′. counted-one _ r r′,
+    λ κ a r r′ e e′. both,
+    λ κ a r r′ e e′. both,
+    λ κ a r r′ e e′. both,
+    λ κ a r r′ e e′. both,
   );
   writer = λ κ a r r′ e e′ p q. written-one r r′ (both p q);
   sheet-call = λ κ a r r′ e e′ p q. handed-one (both p q);
@@ -120,6 +142,12 @@ one-answer = record {
 -- ---- the functions of this crate, which hand on what others hand back
 pub call-one : One own·call.Learnt
 call-one κ a r r′ e e′ p q = both (p .0 .is) (q .0 .is)
+
+pub density-of-one : One own·density-of.Learnt
+density-of-one κ a r r′ e e′ p q = density-one (a .0) r r′ (p .is) (q .is)
+
+pub next-step-one : One own·next-step.Learnt
+next-step-one κ a r r′ e e′ = step-one _ (a .1 .0) r r′
 
 pub judge-one : One own·judge.Learnt
 judge-one κ a r r′ e e′ p q = judged-one (a .0) (a .1 .0) r r′ (p .is) (q .is)

@@ -2,10 +2,11 @@
 use mathlib.Core.Path.{_≡_}
 use mathlib.Core.Bool.{true, false}
 use mathlib.Core.List.{List}
-use Prim.Native.Nat.{ℕ, _+_, _≤_}
+use mathlib.Core.Logic.{_↔_}
+use Prim.Native.Nat.{ℕ, _+_, _≤_, _<_}
 use lib.ListN.{length, take, drop}
 use Rattle.hall.specs.declared.table.Table.{Table}
-use Rattle.density.specs.Density.{DensityOf}
+use Rattle.density.specs.Density.{DensityOf, FewerEvents}
 use Rattle.density.specs.declared.density.Density.{Density}
 use Rattle.sheet_file.specs.Counted.{CountedOf}
 use Rattle.sheet_file.specs.Piece.{pieceOf}
@@ -22,6 +23,8 @@ use Rattle.demands.specs.declared.densities.Step.{Step}
 -- a table, and what was counted: "the blocked tasks, the distinct awaited events, the edges of the task graph, of the event graph and of the task-event graph"
 pub record TableCounted (t : Table) (d : Density) : Type 0 where
   pub is : DensityOf t d
+  -- "A third route, 2, uses events where they are fewer than blocked tasks": so the counts tell which way it goes
+  pub fewer : FewerEvents t ↔ (d .events < d .blocked)
 
 -- what is printed is this line, whole
 pub record LinePrinted (line : List ℕ) (text : Text) : Type 0 where

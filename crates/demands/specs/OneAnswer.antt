@@ -53,15 +53,25 @@ use Rattle.hall.proofs.table.Table.wait.Reads as hall·wait
 use Rattle.hall.proofs.table.Table.wait_at.Reads as hall·wait-at
 use Rattle.hall.proofs.table.Table.release.Reads as hall·release
 use Rattle.hall.proofs.table.Table.call.Reads as hall·call
+use Rattle.density.proofs.density.density_of.Reads as density·density-of
+use Rattle.density.proofs.events.fewer_events.Reads as density·fewer-events
 use Rattle.judge.proofs.task_route.task_route.Reads as judge·task-route
 use Rattle.judge.proofs.event_route.event_route.Reads as judge·event-route
 use Rattle.judge.proofs.judge.judge.Reads as judge·judge
 use Rattle.judge.proofs.verdict.Verdict.nobody.Reads as judge·nobody
 use Rattle.text.proofs.verdict.text_of.Reads as text·text-of
+use Rattle.text.proofs.densities.sheet_line.Reads as text·sheet-line
+use Rattle.text.proofs.densities.total_line.Reads as text·total-line
+use Rattle.text.proofs.densities.stopped_line.Reads as text·stopped-line
 use Rattle.sheet.proofs.number.plain.Reads as sheet·plain
 use Rattle.sheet.proofs.number.read.Reads as sheet·number
 use Rattle.sheet.proofs.number.rising.Reads as sheet·rising
 use Rattle.sheet.proofs.reader.read.Reads as sheet·read
+use Rattle.sheet_file.proofs.counted.count.Reads as sheet-file·count
+use Rattle.sheet_file.proofs.piece.next_piece.Reads as sheet-file·next-piece
+use Rattle.sheet_file.proofs.totals.Totals.none.Reads as sheet-file·none
+use Rattle.sheet_file.proofs.totals.Totals.with.Reads as sheet-file·with
+use Rattle.sheet_file.proofs.totals.Totals.done.Reads as sheet-file·done
 use Rattle.writer.proofs.writer.write.Reads as writer·write
 use Rattle.sheet_call.proofs.sheet_call.Reads as sheet-call·sheet-call
 use Rattle.mollavisce.proofs.entry.verdict_of.Reads as mollavisce·verdict-of
@@ -91,9 +101,12 @@ pub record OneAnswer : Type 1 where
       × One hall·open-task.Learnt × One hall·end-task.Learnt × One hall·open-phaser.Learnt × One hall·close-phaser.Learnt × One hall·admit.Learnt
       × One hall·leave.Learnt × One hall·arrive.Learnt × One hall·wait.Learnt × One hall·wait-at.Learnt × One hall·release.Learnt
       × One hall·call.Learnt
+  pub density : One density·density-of.Learnt × One density·fewer-events.Learnt
   pub judge : One judge·task-route.Learnt × One judge·event-route.Learnt × One judge·judge.Learnt × One judge·nobody.Learnt
-  pub text : One text·text-of.Learnt
+  pub text : One text·text-of.Learnt × One text·sheet-line.Learnt × One text·total-line.Learnt × One text·stopped-line.Learnt
   pub sheet : One sheet·plain.Learnt × One sheet·number.Learnt × One sheet·rising.Learnt × OneLent (λ κ e. now (e .1 .0)) sheet·read.Learnt
+  pub sheet-file : One sheet-file·count.Learnt × One sheet-file·next-piece.Learnt × One sheet-file·none.Learnt × One sheet-file·with.Learnt
+      × One sheet-file·done.Learnt
   pub writer : OneLent (λ κ e. now (e .1 .0)) writer·write.Learnt
   -- `next`, `value` and `length`, its seventh parameter and the two after it
   pub sheet-call : OneLent {B = List ℕ × ℕ × ℕ}

@@ -1,4 +1,5 @@
 pub mod Pieces
 pub mod Counts
 pub mod Added
+pub mod One
 pub mod Examples
