@@ -1,25 +1,26 @@
 -- The demands of a step over a file of sheets, by what comes next.
 use mathlib.Core.Path.{_≡_, refl, sym, ap, subst, _∙_}
 use mathlib.Core.Logic.{_↔_}
-use mathlib.Core.Bool.{true, false}
+use mathlib.Core.Bool.{true, false, true≢false}
 use mathlib.Core.List.{List}
-use Prim.Native.Nat.{ℕ, _+_, _-_, _≤_}
+use Prim.Native.Nat.{ℕ, _+_, _-_, _≤_, _<_}
 use native.Mathlib.Omega.{arith}
 use lib.ListN.{length, take, drop, length-take}
 use lib.Seq.{take-add, take-take, drop-at, length-take-le}
 use Rattle.sheet_file.specs.Counted.{CountedOf}
 use Rattle.sheet.proofs.Numbers.{Bytes}
-use Rattle.sheet_file.specs.Piece.{settlingWindow, pieceOf}
+use Rattle.sheet_file.specs.Piece.{mostSheets, settlingWindow, pieceOf}
 use Rattle.sheet_file.specs.Totals.{doneOf, totalsWith}
 use Rattle.sheet_file.specs.declared.counted.Counted.{Counted}
 use Rattle.sheet_file.specs.declared.piece.Piece.{Piece}
 use Rattle.sheet_file.specs.declared.piece.Piece.the-variants.{Sheet, Stopped, Ended}
+use Rattle.sheet_file.proofs.Counts.{one-done}
 use Rattle.sheet_file.proofs.Pieces.{sheet-within, piece-settled}
 use Rattle.sheet_file.specs.declared.totals.Totals.{Totals}
 use Rattle.text.specs.Density.{sheetLine}
 use Rattle.text.specs.Text.{textWith}
 use Rattle.text.specs.declared.text.Text.{Text}
-use Rattle.text.proofs.Said.{said-whole}
+use Rattle.text.proofs.Said.{within, said-whole}
 use Rattle.demands.specs.Densities.{LinePrinted, LastStep, SheetStep, bytesFrom, StepBy, StepTaken}
 use Rattle.demands.specs.declared.densities.Step.{Step}
 
@@ -27,7 +28,7 @@ printed : (line : List ℕ) (text : Text) → text ≡ textWith line → length 
 printed line text is short = record { is = is; whole = said-whole text line is short }
 
 -- a part of a list, as it is lent and as it is said
-lent-part : (bytes : List ℕ) (from to : ℕ) → from ≤ to → to ≤ length bytes → take (to - from) (drop from bytes) ≡ bytesFrom bytes from to
+pub lent-part : (bytes : List ℕ) (from to : ℕ) → from ≤ to → to ≤ length bytes → take (to - from) (drop from bytes) ≡ bytesFrom bytes from to
 lent-part bytes from to h l =
     let e : to ≡ from + (to - from) = omega arith in
     sym
@@ -63,6 +64,36 @@ module _ (bytes : List ℕ) (before : Totals) (c : Counted) {from to nth taken :
     taken = all;
     ended = refl;
   }
+
+-- what a step prints has room in its text, so that a caller can lend it
+printed-within : {line : List ℕ} {text : Text} → LinePrinted line text → text .length ≤ length (text .bytes)
+printed-within {line} p = rw (p .is) (within line)
+
+pub text-within : (bytes : List ℕ) (before : Totals) (s : Step) → StepTaken bytes before s → s .text .length ≤ length (s .text .bytes)
+text-within bytes before s h = go (pieceOf bytes (doneOf before)) (h .is)
+  where
+    go : (p : Piece) → StepBy bytes before s p → s .text .length ≤ length (s .text .bytes)
+    go Ended l = printed-within (l .prints)
+    go (Stopped n) l = printed-within (l .prints)
+    go (Sheet from to) l = printed-within (l .prints)
+
+-- a step that is not the last is over one sheet more, of the thousand: so a run ends
+pub record OneMore (before after : Totals) : Type 0 where
+  pub few : doneOf before < mostSheets
+  pub more : doneOf after ≡ doneOf before + 1
+
+pub fewer-left : {before after : Totals} → OneMore before after → mostSheets - doneOf after < mostSheets - doneOf before
+fewer-left h = omega (arith, h .few, h .more)
+
+pub step-on : (bytes : List ℕ) (before : Totals) (s : Step) → StepTaken bytes before s → s .ended ≡ false → OneMore before (s .totals)
+step-on bytes before s h on = go (pieceOf bytes (doneOf before)) refl (h .is)
+  where
+    go : (p : Piece) → pieceOf bytes (doneOf before) ≡ p → StepBy bytes before s p → OneMore before (s .totals)
+    go Ended e l = absurd (true≢false (sym (l .ended) ∙ on))
+    go (Stopped n) e l = absurd (true≢false (sym (l .ended) ∙ on))
+    go (Sheet from to) e l =
+        let few = sheet-within bytes (doneOf before) e .few in
+        record { few = few; more = ap doneOf (l .totals) ∙ one-done before (l .counted) ∙ omega arith }
 
 -- ---- a window of the file is as good as all of it
 same-by : (a b : List ℕ) (before : Totals) (s : Step) (p : Piece)

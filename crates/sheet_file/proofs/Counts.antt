@@ -1,7 +1,10 @@
 -- What is counted of a sheet, and what it adds to the totals.
-use Prim.Native.Nat.{ℕ, _+_, _%_, _^_}
+use Prim.Native.Nat.{ℕ}
 use mathlib.Core.Path.{_≡_, refl, ap, subst}
 use mathlib.Core.List.{List}
+use mathlib.Core.Bool.{Bool, true, false, cond}
+use native.Mathlib.Omega.{arith}
+use lib.Dec.{eqb}
 use borrow.Author.Tests.{eq-eqb, ne-eqb}
 use Rattle.answers.specs.Answers.{done}
 use Rattle.hall.specs.declared.table.Table.{Table}
@@ -11,7 +14,7 @@ use Rattle.sheet.specs.Reader.{Sheet, hands, sheetAt}
 use Rattle.sheet_file.specs.declared.counted.Counted.{Counted}
 use Rattle.sheet_file.specs.declared.totals.Totals.{Totals}
 use Rattle.sheet_file.specs.Counted.{noDensity, CountedOf}
-use Rattle.sheet_file.specs.Totals.{sum, sumOfDensities, totalsWith}
+use Rattle.sheet_file.specs.Totals.{sum, doneOf, sumOfDensities, withAccepted, withRefused, totalsWith}
 
 module _ (sheet : List ℕ) (answer : ℕ) (t : Table) (d : Density) (read : hands answer t ≡ sheetAt sheet) where
   pub refused-counted : (answer ≡ done → ⊥) → d ≡ noDensity → CountedOf sheet (record { answer = answer; density = d })
@@ -44,3 +47,12 @@ module _ (t : Totals) (c : Counted) {sheets refused : ℕ} {d : Density} where
       → _≡_ {A = Totals} (record { sheets = sheets; refused = refused; density = d }) (totalsWith t c)
   unfolding totalsWith
   with-accepted h p q e = rw (eq-eqb (c .answer) done h) (same-totals p q e)
+
+-- either way there was one sheet more
+pub one-done : (t : Totals) (c : Counted) → doneOf (totalsWith t c) ≡ sum (doneOf t) 1
+unfolding totalsWith
+one-done t c = go (eqb (c .answer) done)
+  where
+    go : (b : Bool) → doneOf (cond b (withAccepted t (c .density)) (withRefused t)) ≡ sum (doneOf t) 1
+    go true = omega arith
+    go false = omega arith

@@ -43,13 +43,13 @@ within : (c : tie.After-from) → Within (c .before .before .before .before .bef
 within c = sheet-within _ _ (sym (c .before .before .next-piece .ensures) ∙ c .from .given .1)
 
 sub-count : tie.Need-sub-count
-sub-count c = within (c .before) .rises
+sub-count c = let place = within (c .before) in omega (arith, place .rises)
 
 part-count-start : tie.Need-part-count-start
-part-count-start c = within (c .before) .rises
+part-count-start c = let place = within (c .before) in omega (arith, place .rises)
 
 part-count-end : tie.Need-part-count-end
-part-count-end c = within (c .before) .ends
+part-count-end c = let place = within (c .before) in omega (arith, place .ends)
 
 count-requires : tie.Need-count-requires
 count-requires c κs = search needs
