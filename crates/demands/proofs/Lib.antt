@@ -13,5 +13,6 @@ pub mod OfSheets
 pub mod OfSheetCalls
 pub mod OfTables
 pub mod OfFiles
+pub mod WholeFiles
 pub mod OneStep
 pub mod OneAnswers

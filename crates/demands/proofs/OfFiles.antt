@@ -9,6 +9,7 @@ use lib.ListN.{length, take, drop, length-take}
 use lib.Seq.{take-add, take-take, drop-at, length-take-le}
 use Rattle.sheet_file.specs.Counted.{CountedOf}
 use Rattle.sheet.proofs.Numbers.{Bytes}
+use Rattle.sheet_file.specs.File.{bytesFrom}
 use Rattle.sheet_file.specs.Piece.{mostSheets, settlingWindow, pieceOf}
 use Rattle.sheet_file.specs.Totals.{doneOf, totalsWith}
 use Rattle.sheet_file.specs.declared.counted.Counted.{Counted}
@@ -21,7 +22,7 @@ use Rattle.text.specs.Density.{sheetLine}
 use Rattle.text.specs.Text.{textWith}
 use Rattle.text.specs.declared.text.Text.{Text}
 use Rattle.text.proofs.Said.{within, said-whole}
-use Rattle.demands.specs.Densities.{LinePrinted, LastStep, SheetStep, bytesFrom, StepBy, StepTaken}
+use Rattle.demands.specs.Densities.{LinePrinted, LastStep, SheetStep, StepBy, StepTaken}
 use Rattle.demands.specs.declared.densities.Step.{Step}
 
 printed : (line : List ℕ) (text : Text) → text ≡ textWith line → length line ≤ 256 → LinePrinted line text

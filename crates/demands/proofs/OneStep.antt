@@ -2,6 +2,7 @@
 use mathlib.Core.Path.{_≡_, sym, ap, _∙_}
 use mathlib.Core.List.{List}
 use Prim.Native.Nat.{ℕ, _+_}
+use Rattle.sheet_file.specs.File.{bytesFrom}
 use Rattle.sheet_file.specs.Piece.{pieceOf}
 use Rattle.sheet_file.specs.Totals.{doneOf, totalsWith}
 use Rattle.sheet_file.specs.declared.counted.Counted.{Counted}
@@ -11,7 +12,7 @@ use Rattle.sheet_file.specs.declared.totals.Totals.{Totals}
 use Rattle.sheet_file.proofs.One.{counted-one}
 use Rattle.text.specs.Density.{sheetLine}
 use Rattle.text.specs.Text.{textWith}
-use Rattle.demands.specs.Densities.{LastStep, SheetStep, bytesFrom, StepBy, StepTaken}
+use Rattle.demands.specs.Densities.{LastStep, SheetStep, StepBy, StepTaken}
 use Rattle.demands.specs.declared.densities.Step.{Step}
 
 same-step : (s u : Step) → s .text ≡ u .text → s .totals ≡ u .totals → s .taken ≡ u .taken → s .ended ≡ u .ended → s ≡ u

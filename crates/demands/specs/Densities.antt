@@ -1,7 +1,7 @@
 -- Document 02, M-101, "How dense are our graphs": the customer's sentences, of a table's density, and of each step of a run over a file of sheets.
 use mathlib.Core.Path.{_≡_}
 use mathlib.Core.Bool.{true, false}
-use mathlib.Core.List.{List}
+use mathlib.Core.List.{List, [], _∷_, _++_}
 use mathlib.Core.Logic.{_↔_}
 use Prim.Native.Nat.{ℕ, _+_, _≤_, _<_}
 use lib.ListN.{length, take, drop}
@@ -9,8 +9,9 @@ use Rattle.hall.specs.declared.table.Table.{Table}
 use Rattle.density.specs.Density.{DensityOf, FewerEvents}
 use Rattle.density.specs.declared.density.Density.{Density}
 use Rattle.sheet_file.specs.Counted.{CountedOf}
+use Rattle.sheet_file.specs.File.{bytesFrom, Ending, whole, stoppedBy, CutInto}
 use Rattle.sheet_file.specs.Piece.{pieceOf}
-use Rattle.sheet_file.specs.Totals.{doneOf, totalsWith}
+use Rattle.sheet_file.specs.Totals.{doneOf, totalsWith, exactTotals}
 use Rattle.sheet_file.specs.declared.counted.Counted.{Counted}
 use Rattle.sheet_file.specs.declared.piece.Piece.{Piece}
 use Rattle.sheet_file.specs.declared.piece.Piece.the-variants.{Sheet, Stopped, Ended}
@@ -47,10 +48,6 @@ pub record SheetStep (sheet : List ℕ) (before : Totals) (to : ℕ) (s : Step) 
   pub taken : s .taken ≡ to
   pub ended : s .ended ≡ false
 
--- the bytes of a sheet
-abbrev pub bytesFrom : List ℕ → ℕ → ℕ → List ℕ
-bytesFrom bytes from to = drop from (take to bytes)
-
 -- by what comes next
 abbrev pub StepBy : List ℕ → Totals → Step → Piece → Type 0
 -- the file's end: "then exact totals"
@@ -64,3 +61,38 @@ StepBy bytes before s (Sheet from to) = SheetStep (bytesFrom bytes from to) befo
 pub record StepTaken (bytes : List ℕ) (before : Totals) (s : Step) : Type 0 where
   pub is : StepBy bytes before s (pieceOf bytes (doneOf before))
   pub within : s .taken ≤ length bytes
+
+-- ---- a run over a whole file: step by step, each on the bytes that the one before it left, up to the last
+pub data Run : List ℕ → Totals → List Step → Type 0 where
+  last : {bytes : List ℕ} {before : Totals} (s : Step) → StepTaken bytes before s → s .ended ≡ true → Run bytes before (s ∷ [])
+  on : {bytes : List ℕ} {before : Totals} (s : Step) {more : List Step} → StepTaken bytes before s → s .ended ≡ false
+      → Run (drop (s .taken) bytes) (s .totals) more → Run bytes before (s ∷ more)
+
+-- what a run writes, step by step
+abbrev pub written : List Step → List (List ℕ)
+written [] = []
+written (s ∷ more) = take (s .text .length) (s .text .bytes) ∷ written more
+
+-- the line of each sheet; the last line
+abbrev pub sheetLines : ℕ → List Counted → List (List ℕ)
+sheetLines nth [] = []
+sheetLines nth (c ∷ more) = sheetLine nth c ∷ sheetLines (nth + 1) more
+
+abbrev pub lastLine : Ending → Totals → List ℕ
+lastLine whole totals = totalLine totals
+lastLine (stoppedBy n) totals = stoppedLine n
+
+-- of each sheet what is counted of it
+pub data EachCounted : List (List ℕ) → List Counted → Type 0 where
+  none : EachCounted [] []
+  and : {sheet : List ℕ} {c : Counted} {sheets : List (List ℕ)} {more : List Counted} → CountedOf sheet c → EachCounted sheets more
+      → EachCounted (sheet ∷ sheets) (c ∷ more)
+
+-- "a program over a file of up to 1,000 sheets .. that prints per sheet .., then exact totals"
+pub record FilePrinted (file : List ℕ) (steps : List Step) : Type 0 where
+  pub sheets : List (List ℕ)
+  pub ending : Ending
+  pub cut : CutInto file 0 sheets ending
+  pub counted : List Counted
+  pub counts : EachCounted sheets counted
+  pub lines : written steps ≡ sheetLines 1 counted ++ (lastLine ending (exactTotals counted) ∷ [])

@@ -1,7 +1,6 @@
 -- What comes next in small files, and at the figures' edges.
 use mathlib.Core.Path.{_≡_, refl}
 use mathlib.Core.List.{List, [], _∷_}
-use Prim.Native.Nat.{ℕ}
 use Rattle.sheet.specs.Number.{plainAt, numberAt}
 use Rattle.sheet_file.specs.Piece.{pieceOf}
 use Rattle.sheet_file.specs.declared.piece.Piece.{Piece}

@@ -1,6 +1,6 @@
 -- What comes next, case by case; and so many bytes settle it.
 use Prim.Native.Nat.{ℕ, suc, _+_, _≤_, _<_}
-use mathlib.Core.Path.{_≡_, refl, sym, ap, _∙_}
+use mathlib.Core.Path.{_≡_, refl, sym, _∙_}
 use mathlib.Core.List.{List}
 use mathlib.Core.Bool.{Bool, true, false, cond}
 use native.Mathlib.Omega.{arith}
@@ -15,7 +15,6 @@ use Rattle.sheet.proofs.Same.{same-holds}
 use Rattle.sheet.proofs.Numbers.{Bytes, number-ok}
 use Rattle.sheet.proofs.Settled.{number-settled}
 use Rattle.sheet_file.specs.Piece.{mostSheets, largestLength, settlingWindow, afterLength, pieceOf}
-use Rattle.sheet_file.specs.declared.piece.Piece.{Piece}
 use Rattle.sheet_file.specs.declared.piece.Piece.the-variants.{Sheet, Stopped, Ended}
 
 -- a length that was read, and its bytes

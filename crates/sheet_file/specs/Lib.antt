@@ -1,3 +1,4 @@
 pub mod Piece
+pub mod File
 pub mod Counted
 pub mod Totals
