@@ -18,7 +18,7 @@ use Rattle.sheet_file.specs.declared.piece.Piece.the-variants.{Sheet, Stopped, 
 use Rattle.sheet_file.proofs.Counts.{one-done}
 use Rattle.sheet_file.proofs.Pieces.{sheet-within, piece-settled}
 use Rattle.sheet_file.specs.declared.totals.Totals.{Totals}
-use Rattle.text.specs.Density.{sheetLine}
+use Rattle.text.specs.Density.{sheetLine, stoppedLine}
 use Rattle.text.specs.Text.{textWith}
 use Rattle.text.specs.declared.text.Text.{Text}
 use Rattle.text.proofs.Said.{within, said-whole}
@@ -52,6 +52,11 @@ step-by bytes before s p e h =
 pub last-step : (line : List ℕ) (before : Totals) (text : Text) {taken : ℕ} → text ≡ textWith line → length line ≤ 256 → taken ≡ 0
     → LastStep line before (record { text = text; totals = before; taken = taken; ended = true })
 last-step line before text is short none = record { prints = printed line text is short; totals = refl; taken = none; ended = refl }
+
+-- stopped by m, which is n
+pub stopped-step : (before : Totals) (text : Text) (m n : ℕ) {taken : ℕ} → (text ≡ textWith (stoppedLine m)) × (length (stoppedLine m) ≤ 256)
+    → m ≡ n → taken ≡ 0 → LastStep (stoppedLine n) before (record { text = text; totals = before; taken = taken; ended = true })
+stopped-step before text m n h e none = rw (← e) (last-step (stoppedLine m) before text (h .0) (h .1) none)
 
 module _ (bytes : List ℕ) (before : Totals) (c : Counted) {from to nth taken : ℕ} {text : Text} {totals : Totals} where
   pub sheet-step : CountedOf (take (to - from) (drop from bytes)) c → from ≤ to → to ≤ length bytes → text ≡ textWith (sheetLine nth c)

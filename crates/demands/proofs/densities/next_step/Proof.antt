@@ -7,7 +7,7 @@ use Rattle.sheet_file.specs.Totals.{doneOf}
 use Rattle.sheet_file.specs.declared.piece.Piece.{Piece}
 use Rattle.sheet_file.specs.declared.piece.Piece.the-variants.{Sheet, Stopped, Ended}
 use Rattle.sheet_file.proofs.Pieces.{Within, sheet-within}
-use Rattle.demands.proofs.OfFiles.{step-by, last-step, sheet-step}
+use Rattle.demands.proofs.OfFiles.{step-by, last-step, stopped-step, sheet-step}
 use Rattle.demands.proofs.densities.next_step.Statement.{statement}
 use Rattle.demands.proofs.densities.next_step.Tie as tie
 
@@ -72,9 +72,8 @@ returns c =
 returns-2 : tie.Need-returns-2
 returns-2 c =
     let number = c .before .before in
-    let line = c .stopped-line .ensures in
     step-by _ _ _ (Stopped (number .number .given .0 .0)) (told (number .before .before) (number .number .given .1))
-    (last-step _ _ _ (line .0) (line .1) (omega arith))
+    (stopped-step _ _ _ _ (c .stopped-line .ensures) (omega arith) (omega arith))
 
 returns-3 : tie.Need-returns-3
 returns-3 c =

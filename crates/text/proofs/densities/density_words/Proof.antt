@@ -1,8 +1,9 @@
 use borrow.Author.Needs.{needs}
 use native.Mathlib.Omega.{arith}
 use lib.ListN.{length-append}
-use Rattle.text.specs.Density.{densityWords}
+use Rattle.text.specs.Density.{blockedWord, eventsWord, taskWord, eventWord, taskEventWord, densityWords}
 use Rattle.text.proofs.Said.{adds-both}
+use Rattle.text.proofs.Wordings.{said-as}
 use Rattle.text.proofs.densities.density_words.Statement.{statement}
 use Rattle.text.proofs.densities.density_words.Tie as tie
 
@@ -39,11 +40,13 @@ worded-requires-5 c κs = search needs
 returns : tie.Need-returns
 unfolding densityWords
 returns c =
-    let blocked = c .before .before .before .before .before .before .before .before .worded .ensures in
-    let events = c .before .before .before .before .before .before .worded2 .ensures in
-    let tasks = c .before .before .before .before .worded3 .ensures in
-    let edges = c .before .before .worded4 .ensures in
-    let both = c .worded5 .ensures in (
+    let first = c .before .before .before .before .before .before .before .before in
+    let d = first .before .before .args .density in
+    let blocked = said-as blockedWord _ (d .blocked) (first .worded .ensures) (omega arith) in
+    let events = said-as eventsWord _ (d .events) (c .before .before .before .before .before .before .worded2 .ensures) (omega arith) in
+    let tasks = said-as taskWord _ (d .«task_edges») (c .before .before .before .before .worded3 .ensures) (omega arith) in
+    let edges = said-as eventWord _ (d .«event_edges») (c .before .before .worded4 .ensures) (omega arith) in
+    let both = said-as taskEventWord _ (d .«task_event_edges») (c .worded5 .ensures) (omega arith) in (
       adds-both (blocked .0) (adds-both (events .0) (adds-both (tasks .0) (adds-both (edges .0) (both .0)))),
       simp length-append (omega (arith, blocked .1, events .1, tasks .1, edges .1, both .1)),
     )

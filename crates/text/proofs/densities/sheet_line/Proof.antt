@@ -1,9 +1,13 @@
 use borrow.Author.Needs.{needs}
 use native.Mathlib.Omega.{arith}
+use mathlib.Core.List.{[], _∷_, _++_}
 use lib.ListN.{length-append}
+use Rattle.text.specs.Density.{sheetWord, refusedWord}
+use Rattle.text.specs.Parts.{Adds}
+use Rattle.text.specs.Text.{numbered}
 use Rattle.text.proofs.Said.{adds-both}
 use Rattle.text.proofs.Whole.{number-short}
-use Rattle.text.proofs.Wordings.{line-accepted, line-refused}
+use Rattle.text.proofs.Wordings.{said-as, number-as, line-accepted, line-refused}
 use Rattle.text.proofs.densities.sheet_line.Statement.{statement}
 use Rattle.text.proofs.densities.sheet_line.Tie as tie
 
@@ -31,6 +35,11 @@ worded-requires c κs = search needs
 byte-requires : tie.Need-byte-requires
 byte-requires c κs = search needs
 
+-- `sheet` and its place in the file
+begun : (c : tie.After-number) → let a = c .before .before .before .before .args in
+    Adds (c .before .before .before .empty .result) (sheetWord ++ numbered (a .nth ∷ [])) (c .number .result)
+begun c = adds-both (c .before .word .ensures) (number-as _ _ (c .number .ensures) (omega arith))
+
 returns : tie.Need-returns
 returns c =
     let test = c .before .before .before .before in
@@ -38,8 +47,8 @@ returns c =
     let empty = number .before .before .before in
     let a = empty .before .args in
     let short = number-short (a .nth) 19 (omega arith) in
-    let w = c .before .worded .ensures in
-    let said = adds-both (adds-both (number .before .word .ensures) (number .number .ensures)) (adds-both (w .0) (c .byte .ensures)) in
+    let w = said-as refusedWord _ (a .counted .answer) (c .before .worded .ensures) (omega arith) in
+    let said = adds-both (begun number) (adds-both (w .0) (c .byte .ensures)) in
     rw (line-refused (a .nth) (a .counted) (λ e. omega (arith, test .if1 .taken, e)))
     (said .says _ (empty .empty .ensures), simp length-append (omega (arith, w .1)))
 
@@ -57,7 +66,7 @@ returns-2 c =
     let a = empty .before .args in
     let short = number-short (a .nth) 19 (omega arith) in
     let d = c .before .density-words .ensures in
-    let said = adds-both (adds-both (number .before .word .ensures) (number .number .ensures)) (adds-both (d .0) (c .byte2 .ensures)) in
+    let said = adds-both (begun number) (adds-both (d .0) (c .byte2 .ensures)) in
     rw (line-accepted (a .nth) (a .counted) (omega (arith, test .if1 .left)))
     (said .says _ (empty .empty .ensures), simp length-append (omega (arith, d .1)))
 

@@ -4,6 +4,7 @@ use lib.ListN.{length-append}
 use Rattle.text.specs.Density.{stoppedLine}
 use Rattle.text.proofs.Said.{adds-both}
 use Rattle.text.proofs.Whole.{number-short}
+use Rattle.text.proofs.Wordings.{number-as}
 use Rattle.text.proofs.densities.stopped_line.Statement.{statement}
 use Rattle.text.proofs.densities.stopped_line.Tie as tie
 
@@ -27,8 +28,10 @@ unfolding stoppedLine
 returns c =
     let word = c .before .before in
     let empty = word .before .before in
-    let short = number-short (empty .before .args .number) 9 (omega arith) in
-    let said = adds-both (adds-both (word .word .ensures) (c .before .number .ensures)) (c .byte .ensures) in
+    let n = empty .before .args .number in
+    let short = number-short n 9 (omega arith) in
+    let number = number-as _ n (c .before .number .ensures) (omega arith) in
+    let said = adds-both (adds-both (word .word .ensures) number) (c .byte .ensures) in
     (said .says _ (empty .empty .ensures), simp length-append (omega arith))
 
 pub stopped-line-spec : {M : Type 1} → statement M

@@ -1,8 +1,9 @@
 use borrow.Author.Needs.{needs}
 use native.Mathlib.Omega.{arith}
 use lib.ListN.{length-append}
-use Rattle.text.specs.Density.{totalLine}
+use Rattle.text.specs.Density.{refusedWord, sheetsWord, totalLine}
 use Rattle.text.proofs.Said.{adds-both}
+use Rattle.text.proofs.Wordings.{said-as}
 use Rattle.text.proofs.densities.total_line.Statement.{statement}
 use Rattle.text.proofs.densities.total_line.Tie as tie
 
@@ -40,8 +41,9 @@ returns c =
     let sheets = refused .before .before in
     let total = sheets .before .before in
     let empty = total .before .before in
-    let r = refused .worded2 .ensures in
-    let s = sheets .worded .ensures in
+    let totals = empty .before .args .totals in
+    let r = said-as refusedWord _ (totals .refused) (refused .worded2 .ensures) (omega arith) in
+    let s = said-as sheetsWord _ (totals .sheets) (sheets .worded .ensures) (omega arith) in
     let d = c .before .density-words .ensures in
     let said = adds-both (total .word .ensures) (adds-both (s .0) (adds-both (r .0) (adds-both (d .0) (c .byte .ensures)))) in
     (said .says _ (empty .empty .ensures), simp length-append (omega (arith, s .1, r .1, d .1)))
