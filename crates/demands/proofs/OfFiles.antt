@@ -2,15 +2,14 @@
 use mathlib.Core.Path.{_≡_, refl, sym, ap, subst, _∙_}
 use mathlib.Core.Logic.{_↔_}
 use mathlib.Core.Bool.{true, false, true≢false}
-use mathlib.Core.List.{List}
+use mathlib.Core.List.{List, _++_}
 use Prim.Native.Nat.{ℕ, _+_, _-_, _≤_, _<_}
 use native.Mathlib.Omega.{arith}
-use lib.ListN.{length, take, drop, length-take}
-use lib.Seq.{take-add, take-take, drop-at, length-take-le}
+use lib.ListN.{length, take, drop}
+use lib.Seq.{take-add, take-append-le, drop-at, length-take-le}
 use Rattle.sheet_file.specs.Counted.{CountedOf}
-use Rattle.sheet.proofs.Numbers.{Bytes}
 use Rattle.sheet_file.specs.File.{bytesFrom}
-use Rattle.sheet_file.specs.Piece.{mostSheets, settlingWindow, pieceOf}
+use Rattle.sheet_file.specs.Piece.{mostSheets, pieceOf, wantedOf}
 use Rattle.sheet_file.specs.Totals.{doneOf, totalsWith}
 use Rattle.sheet_file.specs.declared.counted.Counted.{Counted}
 use Rattle.sheet_file.specs.declared.piece.Piece.{Piece}
@@ -101,7 +100,7 @@ step-on bytes before s h on = go (pieceOf bytes (doneOf before)) refl (h .is)
         let few = sheet-within bytes (doneOf before) e .few in
         record { few = few; more = ap doneOf (l .totals) ∙ one-done before (l .counted) ∙ omega arith }
 
--- ---- a window of the file is as good as all of it
+-- ---- a part of the file, with as many bytes as are wanted, is as good as all of it
 same-by : (a b : List ℕ) (before : Totals) (s : Step) (p : Piece)
     → ((from to : ℕ) → p ≡ Sheet from to → bytesFrom a from to ≡ bytesFrom b from to) → StepBy a before s p → StepBy b before s p
 same-by a b before s Ended same h = h
@@ -115,15 +114,13 @@ module _ (before : Totals) (s : Step) where
       → StepTaken a before s → StepTaken b before s
   same-step a b e same h = step-by b before s _ e (same-by a b before s (pieceOf a (doneOf before)) same (h .is))
 
-  module _ (bytes : List ℕ) (eight : Bytes bytes) (n : ℕ) (wide : settlingWindow ≤ n) where
-    same-bytes : (from to : ℕ) → pieceOf (take n bytes) (doneOf before) ≡ Sheet from to → bytesFrom (take n bytes) from to ≡ bytesFrom bytes from to
-    same-bytes from to e =
-        let w = sheet-within (take n bytes) (doneOf before) e in
-        ap (drop from) (take-take to n bytes (omega (arith, w .ends, length-take n bytes)))
+  module _ (part rest : List ℕ) (enough : wantedOf part ≤ length part) where
+    same-bytes : (from to : ℕ) → pieceOf part (doneOf before) ≡ Sheet from to → bytesFrom part from to ≡ bytesFrom (part ++ rest) from to
+    same-bytes from to e = ap (drop from) (sym (take-append-le to part rest (sheet-within part (doneOf before) e .ends)))
 
-    pub step-settled : StepTaken (take n bytes) before s ↔ StepTaken bytes before s
+    pub step-settled : StepTaken part before s ↔ StepTaken (part ++ rest) before s
     step-settled =
-        let settled = piece-settled bytes eight n wide (doneOf before) in (
-          same-step (take n bytes) bytes settled same-bytes,
-          same-step bytes (take n bytes) (sym settled) (λ from to e. sym (same-bytes from to (settled ∙ e))),
+        let settled = piece-settled part rest (doneOf before) enough in (
+          same-step part (part ++ rest) settled same-bytes,
+          same-step (part ++ rest) part (sym settled) (λ from to e. sym (same-bytes from to (settled ∙ e))),
         )

@@ -127,6 +127,7 @@ one-answer = record {
   sheet-file = (
     λ κ a r r′ e e′. counted-one _ r r′,
     λ κ a r r′ e e′. both,
+    λ κ a r r′ e e′ p q. both (p .0) (q .0),
     λ κ a r r′ e e′. both,
     λ κ a r r′ e e′. both,
     λ κ a r r′ e e′. both,

@@ -69,6 +69,7 @@ use Rattle.sheet.proofs.number.rising.Reads as sheet·rising
 use Rattle.sheet.proofs.reader.read.Reads as sheet·read
 use Rattle.sheet_file.proofs.counted.count.Reads as sheet-file·count
 use Rattle.sheet_file.proofs.piece.next_piece.Reads as sheet-file·next-piece
+use Rattle.sheet_file.proofs.piece.wanted.Reads as sheet-file·wanted
 use Rattle.sheet_file.proofs.totals.Totals.none.Reads as sheet-file·none
 use Rattle.sheet_file.proofs.totals.Totals.with.Reads as sheet-file·with
 use Rattle.sheet_file.proofs.totals.Totals.done.Reads as sheet-file·done
@@ -105,8 +106,8 @@ pub record OneAnswer : Type 1 where
   pub judge : One judge·task-route.Learnt × One judge·event-route.Learnt × One judge·judge.Learnt × One judge·nobody.Learnt
   pub text : One text·text-of.Learnt × One text·sheet-line.Learnt × One text·total-line.Learnt × One text·stopped-line.Learnt
   pub sheet : One sheet·plain.Learnt × One sheet·number.Learnt × One sheet·rising.Learnt × OneLent (λ κ e. now (e .1 .0)) sheet·read.Learnt
-  pub sheet-file : One sheet-file·count.Learnt × One sheet-file·next-piece.Learnt × One sheet-file·none.Learnt × One sheet-file·with.Learnt
-      × One sheet-file·done.Learnt
+  pub sheet-file : One sheet-file·count.Learnt × One sheet-file·next-piece.Learnt × One sheet-file·wanted.Learnt × One sheet-file·none.Learnt
+      × One sheet-file·with.Learnt × One sheet-file·done.Learnt
   pub writer : OneLent (λ κ e. now (e .1 .0)) writer·write.Learnt
   -- `next`, `value` and `length`, its seventh parameter and the two after it
   pub sheet-call : OneLent {B = List ℕ × ℕ × ℕ}

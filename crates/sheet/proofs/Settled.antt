@@ -159,19 +159,13 @@ module _ (s s' : List ℕ) (eight : Bytes s) (n : ℕ) (same : (i : ℕ) → i <
 pub longest : (s : List ℕ) → Bytes s → {t : Table} {at : ℕ} → tableAt s ≡ value t at → length s ≤ longestSheet
 longest s b e = let w = same-holds (table s s b (suc longestSheet) (λ i h. refl) (λ i h. refl) (omega arith)) e in omega arith
 
--- the first n bytes end, below the n-th, where all do
-ends-below : (n : ℕ) (s : List ℕ) (i : ℕ) → i < n → leb (length s) i ≡ leb (length (take n s)) i
-ends-below n s i h = go (leb (length s) i) refl
-  where
-    go : (b : Bool) → leb (length s) i ≡ b → leb (length s) i ≡ leb (length (take n s)) i
-    go true e = e ∙ sym (le-leb (length (take n s)) i (omega (arith, length-take n s, leb-true (length s) i e)))
-    go false e = e ∙ sym (lt-leb (length (take n s)) i (omega (arith, length-take n s, leb-false (length s) i e)))
-
 pub settles : (s : List ℕ) → Bytes s → tableAt s ≡ tableAt (take settlingBytes s)
 settles s b =
-    same-equal
-    (table s (take settlingBytes s) b settlingBytes (λ i h. sym (getD-take settlingBytes s i 0 h)) (ends-below settlingBytes s) (omega arith))
-
--- a number is read alike of the first n bytes, if those of its groups are among them
-pub number-settled : (s : List ℕ) → Bytes s → (n m at : ℕ) → at + suc further ≤ n → numberAt s m at ≡ numberAt (take n s) m at
-number-settled s b n m at h = same-number s (take n s) b n (λ i l. sym (getD-take n s i 0 l)) (ends-below n s) m at h
+    same-equal (table s (take settlingBytes s) b settlingBytes (λ i h. sym (getD-take settlingBytes s i 0 h)) ends (omega arith))
+  where
+    ends : (i : ℕ) → i < settlingBytes → leb (length s) i ≡ leb (length (take settlingBytes s)) i
+    ends i h = go (leb (length s) i) refl
+      where
+        go : (b : Bool) → leb (length s) i ≡ b → leb (length s) i ≡ leb (length (take settlingBytes s)) i
+        go true e = e ∙ sym (le-leb (length (take settlingBytes s)) i (omega (arith, length-take settlingBytes s, leb-true (length s) i e)))
+        go false e = e ∙ sym (lt-leb (length (take settlingBytes s)) i (omega (arith, length-take settlingBytes s, leb-false (length s) i e)))

@@ -1,6 +1,8 @@
 // What comes next in a file of sheets.
 ghost use mathlib.Core.Path.{_≡_};
-ghost use Rattle.sheet_file.specs.Piece.{pieceOf, settlingWindow};
+ghost use Rattle.sheet_file.specs.Piece.{pieceOf, wantedOf, largestPiece};
+ghost use Prim.Native.Nat.{_≤_};
+ghost use lib.ListN.{length};
 use answers::BYTES_AFTER;
 use answers::ENDS_INSIDE;
 use sheet::number::Number;
@@ -10,8 +12,8 @@ use sheet::number::read;
 pub const LARGEST_LENGTH: u64 = 4_096;
 // "a file of up to 1,000 sheets"
 pub const MOST_SHEETS: u64 = 1_000;
-// So many bytes settle what comes next: those of a length, and of one sheet.
-pub const SETTLING_WINDOW: usize = 4_099;
+// The bytes of a length, and of one sheet: no piece has more.
+pub const LARGEST_PIECE: usize = 4_099;
 
 // A sheet, from its first byte to the one after its last; a fault that stops the run; the file's end.
 pub enum Piece {
@@ -43,9 +45,27 @@ pub fn next_piece(bytes: &[u8], done: u64) -> Piece
     }
 }
 
-// No other promise names it, so this holds it to its definition.
-fn settling_window() -> usize
-    ensures { λ r. ⌜ r ≡ settlingWindow ⌝ }
+// How many bytes what comes next has, as far as these bytes tell: one more than there are where its length goes on. So many are enough to go by, and a
+// program need hold no more of a file.
+pub fn wanted(bytes: &[u8]) -> usize
+    ensures is { λ r. ⌜ r ≡ wantedOf (now (bytes .entry)) ⌝ }
+    ensures fits { λ r. ⌜ (length (now (bytes .entry)) ≤ largestPiece → r ≤ largestPiece) ⌝ }
 {
-    SETTLING_WINDOW
+    match read(bytes, LARGEST_LENGTH, 0) {
+        Number::Refused(refusal) => {
+            if refusal == ENDS_INSIDE {
+                bytes.len() + 1
+            } else {
+                bytes.len()
+            }
+        }
+        Number::Value(length, from) => from + length as usize,
+    }
+}
+
+// No other promise fixes it, so this holds it to its definition.
+fn largest_piece() -> usize
+    ensures { λ r. ⌜ r ≡ largestPiece ⌝ }
+{
+    LARGEST_PIECE
 }

@@ -1,33 +1,34 @@
 // Reads a file of sheets, each after its length, and prints how dense the graphs of each are, then the totals. The file is standard input, or the one
-// that is named by the argument. Of it no more is held than settles what comes next.
+// that is named by the argument. Of it no more is held than one sheet and its length.
 use demands::densities::next_step;
-use sheet_file::piece::SETTLING_WINDOW;
+use sheet_file::piece::LARGEST_PIECE;
+use sheet_file::piece::wanted;
 use sheet_file::totals::Totals;
 use text::text::Text;
 ghost use mathlib.Core.Path.{_≡_};
-ghost use Prim.Native.Nat.{_-_, _≤_};
-ghost use lib.ListN.{length, take, drop};
+ghost use mathlib.Core.Bool.{false};
+ghost use Prim.Native.Nat.{_≤_};
+ghost use lib.ListN.{length, take};
 ghost use Rattle.io.specs.Counts.{Counts};
+ghost use Rattle.sheet_file.specs.Piece.{largestPiece, wantedOf};
 
-// How many bytes of the window are held, whether the input has come to its end, and whether a read failed.
+// How many bytes were taken in, whether the file has come to its end, and whether a read failed.
 struct Input {
     held: usize,
     ended: bool,
     failed: bool,
 }
 
-// Reads until the window is full, the input ends or a read fails. An end is asked for once. What is held stays.
-fn fill(file: i32, window: &mut [u8], before: Input) -> Input
-    requires { ⌜ before .held ≤ length (now window) ⌝ }
-    ensures holds { λ r. ⌜ Counts (r .held) (now (window .exit)) ⌝ }
-    ensures stays { λ _. ⌜ take (before .held) (now (window .exit)) ≡ take (before .held) (now (window .entry)) ⌝ }
+// Takes in the bytes of what comes next: first its length, then as many more as that says. An end is asked for once.
+fn take_in(file: i32, piece: &mut [u8]) -> Input
+    requires { ⌜ length (now piece) ≡ largestPiece ⌝ }
+    ensures holds { λ r. ⌜ Counts (r .held) (now (piece .exit)) ⌝ }
+    ensures enough { λ r. ⌜ (r .ended ≡ false → wantedOf (take (r .held) (now (piece .exit))) ≤ r .held) ⌝ }
 {
-    if before.ended {
-        return before;
-    }
-    let mut held = before.held;
-    while held < window.len() {
-        let got = libc::read(file, &mut window[held..]);
+    let mut held: usize = 0;
+    let mut want = wanted(&piece[..held]);
+    while held < want {
+        let got = libc::read(file, &mut piece[held..want]);
         if got < 0 {
             return Input {
                 held,
@@ -35,7 +36,7 @@ fn fill(file: i32, window: &mut [u8], before: Input) -> Input
                 failed: true,
             };
         }
-        let more = io::count(got, &window[held..]);
+        let more = io::count(got, &piece[held..want]);
         if more == 0 {
             return Input {
                 held,
@@ -44,25 +45,12 @@ fn fill(file: i32, window: &mut [u8], before: Input) -> Input
             };
         }
         held += more;
+        want = wanted(&piece[..held]);
     }
     Input {
         held,
         ended: false,
         failed: false,
-    }
-}
-
-// What is held after the bytes that were taken goes to the front.
-fn shift(window: &mut [u8], taken: usize, held: usize)
-    requires { ⌜ (taken ≤ held) × (held ≤ length (now window)) ⌝ }
-    ensures { λ _. ⌜ take (held - taken) (now (window .exit)) ≡ drop taken (take held (now (window .entry))) ⌝ }
-{
-    let mut from = taken;
-    let mut at: usize = 0;
-    while from < held {
-        window[at] = window[from];
-        from += 1;
-        at += 1;
     }
 }
 
@@ -75,23 +63,18 @@ fn print(text: Text) -> bool
     io::write_all(1, &bytes[..length])
 }
 
-// A line for each sheet, and the last one: after a thousand sheets that comes.
+// A line for each sheet, and the last one.
 fn run(file: i32) {
-    let mut window = [0u8; SETTLING_WINDOW];
-    let mut input = Input {
-        held: 0,
-        ended: false,
-        failed: false,
-    };
+    let mut piece = [0u8; LARGEST_PIECE];
     let mut totals = Totals::none();
     loop {
-        input = fill(file, &mut window, input);
+        let input = take_in(file, &mut piece);
         if input.failed {
             os::fail(b"sheetdensity: the sheets cannot be read");
             return;
         }
         let held = input.held;
-        let step = next_step(&window[..held], totals);
+        let step = next_step(&piece[..held], totals);
         if !print(step.text) {
             io::write_all(2, b"sheetdensity: standard output cannot be written\n");
             return;
@@ -99,9 +82,6 @@ fn run(file: i32) {
         if step.ended {
             return;
         }
-        let taken = step.taken;
-        shift(&mut window, taken, held);
-        input.held = held - taken;
         totals = step.totals;
     }
 }
