@@ -7,12 +7,12 @@ use native.Mathlib.Omega.{arith}
 use lib.ListN.{length, take, drop}
 use Rattle.sheet_file.specs.File.{Ending, CutInto, ends, stops, goes-on}
 use Rattle.sheet_file.specs.Piece.{mostSheets, pieceOf}
-use Rattle.sheet_file.specs.Totals.{noTotals, doneOf, totalsAfter}
+use Rattle.sheet_file.specs.Totals.{noTotals, doneOf}
 use Rattle.sheet_file.specs.declared.counted.Counted.{Counted}
 use Rattle.sheet_file.specs.declared.piece.Piece.{Piece}
 use Rattle.sheet_file.specs.declared.piece.Piece.the-variants.{Sheet, Stopped, Ended}
 use Rattle.sheet_file.specs.declared.totals.Totals.{Totals}
-use Rattle.sheet_file.proofs.Added.{AllSmall, totals-exact}
+use Rattle.sheet_file.proofs.Added.{totalsAfter, AllSmall, totals-exact}
 use Rattle.sheet_file.proofs.One.{counted-small}
 use Rattle.demands.specs.Densities.{StepBy, Run, last, on, written, sheetLines, lastLine, EachCounted, none, and, FilePrinted}
 use Rattle.demands.specs.declared.densities.Step.{Step}

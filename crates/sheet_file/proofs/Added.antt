@@ -12,9 +12,14 @@ use Rattle.sheet_file.specs.declared.counted.Counted.{Counted}
 use Rattle.sheet_file.specs.declared.totals.Totals.{Totals}
 use Rattle.sheet_file.specs.Piece.{mostSheets}
 use Rattle.sheet_file.specs.Counted.{noDensity}
-use Rattle.sheet_file.specs.Totals.{noTotals, sum, doneOf, sumOfDensities, withAccepted, withRefused, totalsWith, totalsAfter, exactTotals}
+use Rattle.sheet_file.specs.Totals.{noTotals, sum, doneOf, sumOfDensities, withAccepted, withRefused, totalsWith, exactTotals}
 use Rattle.sheet_file.specs.Totals.{addedUp, ofAccepted, ofRefused}
 use Rattle.sheet_file.proofs.Counts.{same-density, same-totals}
+
+-- the totals after sheets that come one after the other
+abbrev pub totalsAfter : Totals → List Counted → Totals
+totalsAfter t [] = t
+totalsAfter t (c ∷ l) = totalsAfter (totalsWith t c) l
 
 -- no table has more edges of a kind: 32 tasks to their events, and 32 events to 32 tasks
 abbrev pub mostEdges : ℕ

@@ -9,6 +9,7 @@ use Rattle.density.specs.declared.density.Density.{Density}
 use Rattle.sheet.specs.Reader.{sheetAt}
 use Rattle.sheet_file.specs.declared.counted.Counted.{Counted}
 
+-- no blocked task, no awaited event, no edge
 abbrev pub noDensity : Density
 noDensity = record { blocked = 0; events = 0; «task_edges» = 0; «event_edges» = 0; «task_event_edges» = 0 }
 

@@ -9,6 +9,7 @@ use Rattle.sheet_file.specs.declared.counted.Counted.{Counted}
 use Rattle.sheet_file.specs.declared.totals.Totals.{Totals}
 use Rattle.sheet_file.specs.Counted.{noDensity}
 
+-- before the first sheet
 abbrev pub noTotals : Totals
 noTotals = record { sheets = 0; refused = 0; density = noDensity }
 
@@ -20,6 +21,7 @@ sum a b = (a + b) % 2 ^ 64
 abbrev pub doneOf : Totals → ℕ
 doneOf t = sum (t .sheets) (t .refused)
 
+-- each of the five counts added up
 abbrev pub sumOfDensities : Density → Density → Density
 sumOfDensities a b = record {
   blocked = sum (a .blocked) (b .blocked);
@@ -39,11 +41,6 @@ withRefused t = record { sheets = t .sheets; refused = sum (t .refused) 1; densi
 -- "A refused sheet .. adds only to a total of refused ones."
 unfoldable pub totalsWith : Totals → Counted → Totals
 totalsWith t c = cond (eqb (c .answer) done) (withAccepted t (c .density)) (withRefused t)
-
--- the totals after sheets that come one after the other
-abbrev pub totalsAfter : Totals → List Counted → Totals
-totalsAfter t [] = t
-totalsAfter t (c ∷ l) = totalsAfter (totalsWith t c) l
 
 -- a number of each sheet added up; and such a number where only an accepted sheet has it, or only a refused one
 abbrev pub addedUp : (Counted → ℕ) → List Counted → ℕ
