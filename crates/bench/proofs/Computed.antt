@@ -165,9 +165,9 @@ x then y = (x, y)
 
 computed : Each Computes rows
 unfolding rows p2 p3 p4 p5 p6 p7 p8 p9 figure2 section2-4 example4-1 example4-1-before example4-2 example4-3 statedOf judgeOf soundOf
-    entriesSound statesSound every stateAt openAt memberAt phaseAt freshTable withState withEntry withOpen namedIn namedOf clear rowsOf places maskOf impedesOf eventOf roundIn
-    ringIn ringOf nextsOf ringFrom stepOf goOf lowOf onceOf trailingZeros size densityIn countOf pairsOf standsAt impedesAt joinedAt impederAt
-    awaitsOf sameOf callOf arriveOf waitAtOf ruled refusalOf arriveTests waitAtTests memberTests callerTests numberAt plainAt
+    entriesSound statesSound every stateAt openAt memberAt phaseAt freshTable withState withEntry withOpen namedIn namedOf clear rowsOf places
+    maskOf impedesOf eventOf roundIn ringIn ringOf nextsOf ringFrom stepOf goOf lowOf onceOf trailingZeros size densityIn countOf pairsOf standsAt impedesAt
+    joinedAt impederAt awaitsOf sameOf callOf arriveOf waitAtOf ruled refusalOf arriveTests waitAtTests memberTests callerTests numberAt plainAt
 computed =
     refl then refl then refl then refl then refl then refl then refl then refl then refl then refl then refl then refl then refl then refl then refl
     then refl then refl then refl then (tt, refl, refl) then (tt, refl, refl) then (tt, refl, refl)

@@ -15,7 +15,8 @@ use Rattle.sheet_file.specs.declared.counted.Counted.{Counted}
 use Rattle.sheet_file.specs.declared.piece.Piece.{Piece}
 use Rattle.sheet_file.specs.declared.piece.Piece.the-variants.{Sheet, Stopped, Ended}
 use Rattle.sheet_file.proofs.Counts.{one-done}
-use Rattle.sheet_file.proofs.Pieces.{sheet-within, piece-settled}
+use Rattle.sheet_file.proofs.Enough.{piece-settled, sheet-wanted}
+use Rattle.sheet_file.proofs.Pieces.{sheet-within}
 use Rattle.sheet_file.specs.declared.totals.Totals.{Totals}
 use Rattle.text.specs.Density.{sheetLine, stoppedLine}
 use Rattle.text.specs.Text.{textWith}
@@ -124,3 +125,13 @@ module _ (before : Totals) (s : Step) where
           same-step part (part ++ rest) settled same-bytes,
           same-step (part ++ rest) part (sym settled) (λ from to e. sym (same-bytes from to (settled ∙ e))),
         )
+
+-- where as many bytes are there as are wanted, a step that is not the last takes them all
+pub step-whole : (part : List ℕ) (before : Totals) (s : Step) → length part ≡ wantedOf part → StepTaken part before s → s .ended ≡ false
+    → s .taken ≡ length part
+step-whole part before s all h on = go (pieceOf part (doneOf before)) refl (h .is)
+  where
+    go : (p : Piece) → pieceOf part (doneOf before) ≡ p → StepBy part before s p → s .taken ≡ length part
+    go Ended e l = absurd (true≢false (sym (l .ended) ∙ on))
+    go (Stopped n) e l = absurd (true≢false (sym (l .ended) ∙ on))
+    go (Sheet from to) e l = l .taken ∙ sheet-wanted part (doneOf before) e ∙ sym all

@@ -1,4 +1,6 @@
 pub mod Pieces
+pub mod OfParts
+pub mod Enough
 pub mod Counts
 pub mod Added
 pub mod One

@@ -23,7 +23,7 @@ struct Input {
 fn take_in(file: i32, piece: &mut [u8]) -> Input
     requires { ⌜ length (now piece) ≡ largestPiece ⌝ }
     ensures holds { λ r. ⌜ Counts (r .held) (now (piece .exit)) ⌝ }
-    ensures enough { λ r. ⌜ (r .ended ≡ false → wantedOf (take (r .held) (now (piece .exit))) ≤ r .held) ⌝ }
+    ensures whole { λ r. ⌜ (r .ended ≡ false → r .held ≡ wantedOf (take (r .held) (now (piece .exit)))) ⌝ }
 {
     let mut held: usize = 0;
     let mut want = wanted(&piece[..held]);

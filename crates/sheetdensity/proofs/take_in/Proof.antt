@@ -1,5 +1,5 @@
--- The invariant: what is held and what is wanted lie within the piece, whose length stays, and what is wanted goes by what is held. A read that moves
--- nothing ends the loop.
+-- The invariant: no more is held than is wanted, which lies within the piece and goes by what is held; the piece's length stays. A read that moves nothing
+-- ends the loop.
 use mathlib.Core.Path.{_≡_}
 use mathlib.Core.Bool.{true≢false}
 use Prim.Native.Nat.{_+_, _-_, _≤_}
@@ -9,13 +9,13 @@ use borrow.Author.Needs.{needs}
 use borrow.Rule.Slice.PartMut.{putMid}
 use Rattle.io.proofs.Counting.{counts, front}
 use Rattle.sheet_file.specs.Piece.{largestPiece, wantedOf}
-use Rattle.sheetdensity.proofs.Fronts.{front-short}
+use Rattle.sheetdensity.proofs.Fronts.{front-short, front-stays, more-wanted}
 use Rattle.sheetdensity.proofs.take_in.Statement.{statement}
 use Rattle.sheetdensity.proofs.take_in.Tie as tie
 
 abbrev Inv-loop : tie.InvT-loop
 Inv-loop file piece₀ held₀ want₀ piece held want =
-    (held ≤ length piece) × (length piece ≡ largestPiece) × (want ≤ largestPiece) × (want ≡ wantedOf (take held piece))
+    (held ≤ want) × (length piece ≡ largestPiece) × (want ≤ largestPiece) × (want ≡ wantedOf (take held piece))
 
 abbrev μ-loop : tie.MeasureT-loop
 μ-loop file piece₀ held₀ want₀ piece held want = length piece - held
@@ -88,14 +88,18 @@ loop-again c =
     let read = c .before .before .before .before .before .before .before .before .before in
     let at = read .before .before .before .loop in
     let now = putMid (at .held) (at .want - at .held) (at .piece) (read .read .last .1 .0) in
+    let more = c .before .before .before .count .result in
     let same : length now ≡ largestPiece = search needs in
-    (search needs, same, c .wanted2 .ensures .1 (front-short (at .held + c .before .before .before .count .result) _ now same), c .wanted2 .ensures .0)
+    let few : at .held + more ≤ at .want = search needs in
+    let stays = front-stays (at .held) (at .piece) _ (omega (arith, at .inv .0, at .inv .1, at .inv .2)) in
+    let grows = more-wanted (at .held) more (at .piece) now stays (omega (arith, at .inv .2)) (omega (arith, at .inv .3)) in
+    (omega (arith, grows, c .wanted2 .ensures .0), same, c .wanted2 .ensures .1 (front-short (at .held + more) _ now same), c .wanted2 .ensures .0)
 
 same-length-3 : tie.Need-same-length-3 Inv-loop μ-loop
 same-length-3 c = search needs
 
 returns-3 : tie.Need-returns-3 Inv-loop μ-loop
-returns-3 c = (counts _ _ (search needs), λ e. let at = c .before .loop .inv in omega (arith, at .3, c .loop-test .left))
+returns-3 c = (counts _ _ (search needs), λ e. let at = c .before .loop .inv in omega (arith, at .0, at .3, c .loop-test .left))
 
 pub take-in-spec : {M : Type 1} → statement M
 take-in-spec =

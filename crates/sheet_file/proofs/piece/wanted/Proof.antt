@@ -6,7 +6,8 @@ use borrow.Author.Needs.{needs}
 use Rattle.sheet.specs.Got.{value, refused}
 use Rattle.sheet.specs.Number.{outcome, numberAt}
 use Rattle.sheet_file.specs.Piece.{largestLength}
-use Rattle.sheet_file.proofs.Pieces.{length-read, wanted-value, wanted-more, wanted-all, wanted-told}
+use Rattle.sheet_file.proofs.Enough.{wanted-value, wanted-more, wanted-all, wanted-told}
+use Rattle.sheet_file.proofs.Pieces.{length-read}
 use Rattle.sheet_file.proofs.piece.wanted.Statement.{statement}
 use Rattle.sheet_file.proofs.piece.wanted.Tie as tie
 
