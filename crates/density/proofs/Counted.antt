@@ -40,14 +40,14 @@ module _ (t : Table) (r : Events) (g : EventsOf t r) where
     )
 
     -- ---- edges
-    module _ (rows : List ℕ) (x : RowsOf t (r .blocked) rows) where
+    module _ (rows : List ℕ) (among : ℕ) (all : among ≡ r .blocked) (x : RowsOf t among rows) where
       abbrev Row : ℕ → ℕ → Type 0
       Row k u = Has (getD rows k 0) u
 
       row-iff : (k u : ℕ) → Row k u ↔ (IsBlocked t u × ImpedesTask t k u)
       row-iff k u = (
-        λ h. let q = x .iff k u .0 h in (blocked-iff u .0 (q .1), q .2),
-        λ h. x .iff k u .1 (blocked-iff k .1 (h .1 .event, h .1 .waits), blocked-iff u .1 (h .0), h .1),
+        λ h. let q = x .iff k u .0 h in (blocked-iff u .0 (rw all at (q .1)), q .2),
+        λ h. x .iff k u .1 (rw all (blocked-iff k .1 (h .1 .event, h .1 .waits)), rw all (blocked-iff u .1 (h .0)), h .1),
       )
 
       joined-iff : (k u : ℕ) → (Has (r .first) k × JoinedBy r rows k u) ↔ Joined t k u
@@ -66,14 +66,14 @@ module _ (t : Table) (r : Events) (g : EventsOf t r) where
       )
 
       pub density-counted : (d : Density) → tasks ≡ d .blocked → events ≡ d .events → Counts (r .blocked) Row (d .«task_edges»)
-          → Counts (r .first) (JoinedBy r rows) (d .«event_edges») → (n : ℕ) → Counts (r .first) Row n
+          → Counts (r .first) (JoinedBy r rows) (d .«event_edges») → (n f : ℕ) → Counts f Row n → f ≡ r .first
           → d .«task_event_edges» ≡ tasks + n → DensityOf t d
-      density-counted d p q task-edges event-edges n impeders s = record {
+      density-counted d p q task-edges event-edges n f impeders z s = record {
         blocked = rw (← p) blocked-are;
         events = rw (← q) awaited-are;
         task-edges = count-task-edges t (many-along own (task-edges .many));
         event-edges = count-event-edges t (many-along (λ p. joined-iff (p .0) (p .1)) (event-edges .many));
-        task-event-edges = rw s (count-task-event-edges t blocked-are (many-along first (impeders .many)));
+        task-event-edges = rw s (count-task-event-edges t blocked-are (many-along first (rw z at (impeders .many))));
       }
         where
           own : (p : ℕ × ℕ) → (Has (r .blocked) (p .0) × Row (p .0) (p .1)) ↔ (IsBlocked t (p .1) × ImpedesTask t (p .0) (p .1))

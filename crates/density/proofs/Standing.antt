@@ -131,8 +131,8 @@ module _ (t : Table) (blocked : ℕ) (b : BlockedSet t blocked) where
       row j (yes q) = subst RowAt (sym q) own
       row j (no n) = other j n
 
-      pub sort-more : Sorted t blocked next rest (set waiters k alike)
-      sort-more = record {
+      sorted : Sorted t blocked next rest (set waiters k alike)
+      sorted = record {
         fits = f;
         long = length-set waiters k alike ∙ g .long;
         within = λ u h. g .within u (gone u .0 h .0);
@@ -148,8 +148,14 @@ module _ (t : Table) (blocked : ℕ) (b : BlockedSet t blocked) where
               λ w. subst (BlockedOn t j) (one-awaited (stateAt t u) (a .event) e (a .other) w) (a .one) in
               gone u .1 (g .together j u a (q .0), λ i. q .1 (waits j .1 (q .0, back (waits u .0 i .1))))
 
-      pub sort-less : rest < todo
-      sort-less = within-lt 32 rest todo k f (λ u h. gone u .0 h .0) (s .lowest .holds) (λ h. gone k .0 h .1 mine)
+    pub sort-less : (rest : ℕ) → ((u : ℕ) → Has rest u ↔ (Has todo u × (Has alike u → ⊥))) → rest < 2 ^ 32 → rest < todo
+    sort-less rest gone f = within-lt 32 rest todo k f (λ u h. gone u .0 h .0) (s .lowest .holds) (λ h. gone k .0 h .1 mine)
+
+    -- the row that is kept is that of those who await the event, and so is the set from which the task is taken
+    pub sort-more : (row they others next rest : ℕ) → row ≡ alike → they ≡ alike → Taken they k others
+        → ((u : ℕ) → Has next u ↔ (Has first u × (Has others u → ⊥))) → ((u : ℕ) → Has rest u ↔ (Has todo u × (Has alike u → ⊥)))
+        → rest < 2 ^ 32 → Sorted t blocked next rest (set waiters k row)
+    sort-more row they others next rest p q taken kept gone f = rw p (sorted others next rest (rw q at taken) kept gone f)
 
   pub sort-done : (first : ℕ) (waiters : List ℕ) → Sorted t blocked first 0 waiters
       → EventsOf t (record { blocked = blocked; first = first; waiters = waiters })

@@ -63,15 +63,15 @@ module _ (set : ℕ) (E : ℕ → ℕ → Type 0) where
       pub tally-less : rest < left
       tally-less = lowest-less (g .fits) some low rest f taken
 
-      pub tally-more : (row n more : ℕ) → n ≡ size row 32 → more ≡ edges + n → row < 2 ^ 32 → ((u : ℕ) → Has row u ↔ E k u)
+      pub tally-more : (row m n more : ℕ) → n ≡ size m 32 → m ≡ row → more ≡ edges + n → row < 2 ^ 32 → ((u : ℕ) → Has row u ↔ E k u)
           → Tallied rest more
-      tally-more row n more e s fits iff = rw s (record {
+      tally-more row m n more e same s fits iff = rw s (record {
         fits = f;
         within = λ j r. g .within j (taken j .0 r .0);
-        room = let z = g .room in omega (arith, size-taken left k rest taken 32 tally-near here, size-le 32 row);
+        room = let z = g .room in omega (arith, size-taken left k rest taken 32 tally-near here, size-le 32 m);
         many =
             many-along (λ p. (into p, from p (ℕ-discrete (p .0) k)))
-            (many-row k (g .many) (many-along iff (rw e (many-set 32 row fits))) (λ u x. x .1 here));
+            (many-row k (g .many) (many-along iff (rw (e, same) (many-set 32 row fits))) (λ u x. x .1 here));
       })
         where
           into : (p : ℕ × ℕ) → Gone left (p .0) (p .1) ⊎ ((p .0 ≡ k) × E k (p .1)) → Gone rest (p .0) (p .1)

@@ -18,13 +18,18 @@ pub fn density_of(table: Table) -> Density
 {
     let events = events_of(table);
     let among = events.blocked;
+    let first = events.first;
     let impeders = table.edges(among);
     let blocked = sets::size(among) as u64;
+    let awaited = sets::size(first) as u64;
+    let task_edges = edges_from(among, impeders);
+    let between_events = event_edges(events, impeders);
+    let task_event_edges = blocked + edges_from(first, impeders);
     Density {
         blocked,
-        events: sets::size(events.first) as u64,
-        task_edges: edges_from(among, impeders),
-        event_edges: event_edges(events, impeders),
-        task_event_edges: blocked + edges_from(events.first, impeders),
+        events: awaited,
+        task_edges,
+        event_edges: between_events,
+        task_event_edges,
     }
 }

@@ -21,8 +21,8 @@ cast-blocked c = search needs
 size-requires-2 : tie.Need-size-requires-2
 size-requires-2 c κs = search needs
 
-cast-t7 : tie.Need-cast-t7
-cast-t7 c = search needs
+cast-awaited : tie.Need-cast-awaited
+cast-awaited c = search needs
 
 edges-from-requires : tie.Need-edges-from-requires
 edges-from-requires c κs = search needs
@@ -33,8 +33,8 @@ event-edges-requires c κs = search needs
 edges-from-requires-2 : tie.Need-edges-from-requires-2
 edges-from-requires-2 c κs = search needs
 
-add-t11 : tie.Need-add-t11
-add-t11 c = let fits = c .before .before .before .before .size .ok in let small = c .edges-from2 .ensures .small in omega arith
+add-task-event-edges : tie.Need-add-task-event-edges
+add-task-event-edges c = let fits = c .before .before .before .before .size .ok in let small = c .edges-from2 .ensures .small in omega arith
 
 returns : tie.Need-returns
 returns c =
@@ -44,8 +44,8 @@ returns c =
     let blocked : events .result .blocked < 2 ^ 32 = search needs in
     let first : events .result .first < 2 ^ 32 = search needs in
     density-counted _ (events .result) (events .ensures) _ _ (sizes .before .size .ensures) (sizes .size2 .ensures) blocked first _
-    (rows .edges .ensures) _ (omega arith) (omega arith) (c .before .before .edges-from .ensures) (c .before .event-edges .ensures) _
-    (c .edges-from2 .ensures) (omega arith)
+    _ (omega arith) (rows .edges .ensures) _ (omega arith) (omega arith) (c .before .before .edges-from .ensures) (c .before .event-edges .ensures) _ _
+    (c .edges-from2 .ensures) (omega arith) (omega arith)
 
 pub density-of-spec : {M : Type 1} → statement M
 density-of-spec =
@@ -56,9 +56,9 @@ density-of-spec =
     size-requires
     cast-blocked
     size-requires-2
-    cast-t7
+    cast-awaited
     edges-from-requires
     event-edges-requires
     edges-from-requires-2
-    add-t11
+    add-task-event-edges
     returns)

@@ -59,8 +59,8 @@ loop-again c =
     let at = c .before .before .before in
     let n = c .before .widen .ensures ∙ c .before .before .size .ensures in
     let fits : Fits w32 (getD (at .before .before .before .args .t2) (at .lowest .result) 0) = search needs in
-    tally-more _ _ _ _ _ (at .before .before .loop .inv) (at .before .loop-test .taken) (at .lowest .ensures) _ (c .take .ensures) (c .take .ok) _ _ _ n
-    (omega arith) (fits .fits) (λ u. (λ h. h, λ h. h))
+    tally-more _ _ _ _ _ (at .before .before .loop .inv) (at .before .loop-test .taken) (at .lowest .ensures) _ (c .take .ensures) (c .take .ok) _ _ _ _ n
+    (omega arith) (omega arith) (fits .fits) (λ u. (λ h. h, λ h. h))
 
 returns : tie.Need-returns Inv-loop μ-loop
 returns c = tally-done _ _ _ (rw (c .loop-test .left) at (c .before .loop .inv))

@@ -63,8 +63,8 @@ loop-again c =
     let at = chosen c in
     let n = c .before .widen .ensures ∙ c .before .before .size .ensures in
     let row = c .before .before .before .awaited-by in
-    tally-more _ _ _ _ _ (at .before .before .loop .inv) (at .before .loop-test .taken) (at .lowest .ensures) _ (c .take .ensures) (c .take .ok) _ _ _ n
-    (omega arith) (row .ok) (joined _ _ _ _ (row .ensures))
+    tally-more _ _ _ _ _ (at .before .before .loop .inv) (at .before .loop-test .taken) (at .lowest .ensures) _ (c .take .ensures) (c .take .ok)
+    (row .result) _ _ _ n (omega arith) (omega arith) (row .ok) (joined _ _ _ _ (row .ensures))
 
 returns : tie.Need-returns Inv-loop μ-loop
 returns c = tally-done _ _ _ (rw (c .loop-test .left) at (c .before .loop .inv))

@@ -119,15 +119,14 @@ loop-less : tie.Need-loop-less Inv-loop2 μ-loop2 Inv-loop μ-loop
 loop-less c =
     let at = c .before .before .before in
     let known = head at .before .blocked .ensures in
-    sort-less _ _ known _ _ _ (head at .loop .inv) _ _ _ (found at) _ _ _ (c .before .before .take2 .ensures) (c .before .less .ensures)
-    (c .less2 .ensures) (c .less2 .ok)
+    sort-less _ _ known _ _ _ (head at .loop .inv) _ _ _ (found at) _ (c .less2 .ensures) (c .less2 .ok)
 
 loop-again : tie.Need-loop-again Inv-loop2 μ-loop2 Inv-loop μ-loop
 loop-again c =
     let at = c .before .before .before in
     let known = head at .before .blocked .ensures in
-    sort-more _ _ known _ _ _ (head at .loop .inv) _ _ _ (found at) _ _ _ (c .before .before .take2 .ensures) (c .before .less .ensures)
-    (c .less2 .ensures) (c .less2 .ok)
+    sort-more _ _ known _ _ _ (head at .loop .inv) _ _ _ (found at) _ _ _ _ _ (omega arith) (omega arith) (c .before .before .take2 .ensures)
+    (c .before .less .ensures) (c .less2 .ensures) (c .less2 .ok)
 
 returns : tie.Need-returns Inv-loop2 μ-loop2 Inv-loop μ-loop
 returns c = sort-done _ _ (c .before .before .blocked .ensures) _ _ (rw (c .loop-test .left) at (c .before .loop .inv))
