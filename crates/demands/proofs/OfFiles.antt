@@ -9,13 +9,14 @@ use lib.ListN.{length, take, drop}
 use lib.Seq.{take-add, take-append-le, drop-at, length-take-le}
 use Rattle.sheet_file.specs.Counted.{CountedOf}
 use Rattle.sheet_file.specs.File.{bytesFrom}
-use Rattle.sheet_file.specs.Piece.{mostSheets, pieceOf, wantedOf}
+use Rattle.sheet_file.specs.Piece.{mostSheets, pieceOf}
+use Rattle.sheet_file.specs.Parts.{wantedOf}
 use Rattle.sheet_file.specs.Totals.{doneOf, totalsWith}
 use Rattle.sheet_file.specs.declared.counted.Counted.{Counted}
 use Rattle.sheet_file.specs.declared.piece.Piece.{Piece}
 use Rattle.sheet_file.specs.declared.piece.Piece.the-variants.{Sheet, Stopped, Ended}
 use Rattle.sheet_file.proofs.Counts.{one-done}
-use Rattle.sheet_file.proofs.Enough.{piece-settled, sheet-wanted}
+use Rattle.sheet_file.proofs.Enough.{piece-settled}
 use Rattle.sheet_file.proofs.Pieces.{sheet-within}
 use Rattle.sheet_file.specs.declared.totals.Totals.{Totals}
 use Rattle.text.specs.Density.{sheetLine, stoppedLine}
@@ -134,4 +135,4 @@ step-whole part before s all h on = go (pieceOf part (doneOf before)) refl (h .i
     go : (p : Piece) → pieceOf part (doneOf before) ≡ p → StepBy part before s p → s .taken ≡ length part
     go Ended e l = absurd (true≢false (sym (l .ended) ∙ on))
     go (Stopped n) e l = absurd (true≢false (sym (l .ended) ∙ on))
-    go (Sheet from to) e l = l .taken ∙ sheet-wanted part (doneOf before) e ∙ sym all
+    go (Sheet from to) e l = l .taken ∙ sheet-within part (doneOf before) e .wanted ∙ sym all

@@ -27,10 +27,10 @@ module _ (t : Table) (r : Events) (g : EventsOf t r) where
   -- ---- blocked tasks, awaited events
   module _ (tasks events : ℕ) (e : tasks ≡ size (r .blocked) 32) (f : events ≡ size (r .first) 32) (b : r .blocked < 2 ^ 32)
       (l : r .first < 2 ^ 32) where
-    pub blocked-are : HowMany (IsBlocked t) tasks
+    blocked-are : HowMany (IsBlocked t) tasks
     blocked-are = many-along blocked-iff (rw e (many-set 32 (r .blocked) b))
 
-    pub awaited-are : HowMany (IsAwaited t) events
+    awaited-are : HowMany (IsAwaited t) events
     awaited-are = count-events t (many-along (g .first) (rw f (many-set 32 (r .first) l)))
 
     pub fewer-iff : (events < tasks) ↔ FewerEvents t

@@ -11,6 +11,14 @@ use Rattle.density.specs.declared.density.Density.{Density}
 use Rattle.density.proofs.Many.{many-same}
 use Rattle.density.proofs.Twins.{count-small, pairs-small, impederAt, densityIn, densityIn-counts}
 
+-- 32 tasks, and so 32 events; 32 times 32 pairs
+pub record Small (d : Density) : Type 0 where
+  pub blocked : d .blocked ≤ 32
+  pub events : d .events ≤ 32
+  pub task-edges : d .«task_edges» ≤ 1024
+  pub event-edges : d .«event_edges» ≤ 1024
+  pub task-event-edges : d .«task_event_edges» ≤ 1056
+
 module _ (t : Table) where
   pub density-one : (d e : Density) → DensityOf t d → DensityOf t e → d ≡ e
   density-one d e x y =
@@ -26,14 +34,6 @@ module _ (t : Table) where
         «event_edges» = event-edges i;
         «task_event_edges» = task-event-edges i;
       }
-
-  -- 32 tasks, and so 32 events; 32 times 32 pairs
-  pub record Small (d : Density) : Type 0 where
-    pub blocked : d .blocked ≤ 32
-    pub events : d .events ≤ 32
-    pub task-edges : d .«task_edges» ≤ 1024
-    pub event-edges : d .«event_edges» ≤ 1024
-    pub task-event-edges : d .«task_event_edges» ≤ 1056
 
   pub density-small : (d : Density) → DensityOf t d → Small d
   unfolding densityIn

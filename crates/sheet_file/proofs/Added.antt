@@ -1,5 +1,5 @@
 -- Over a file's sheets the totals are exact: no sum wraps.
-use Prim.Native.Nat.{ℕ, suc, _+_, _*_, _^_, _≤_, _<_}
+use Prim.Native.Nat.{ℕ, _+_, _*_, _^_, _≤_, _<_}
 use mathlib.Core.Path.{_≡_, refl, _∙_}
 use mathlib.Core.List.{List, [], _∷_}
 use mathlib.Core.Bool.{Bool, true, false, cond}
@@ -12,8 +12,9 @@ use Rattle.sheet_file.specs.declared.counted.Counted.{Counted}
 use Rattle.sheet_file.specs.declared.totals.Totals.{Totals}
 use Rattle.sheet_file.specs.Piece.{mostSheets}
 use Rattle.sheet_file.specs.Counted.{noDensity}
-use Rattle.sheet_file.specs.Totals.{noTotals, sum, doneOf, sumOfDensities, withAccepted, withRefused, totalsWith, exactTotals}
+use Rattle.sheet_file.specs.Totals.{noTotals, sum, sumOfDensities, withAccepted, withRefused, totalsWith, exactTotals}
 use Rattle.sheet_file.specs.Totals.{addedUp, ofAccepted, ofRefused}
+use Rattle.density.proofs.Decided.{Small}
 use Rattle.sheet_file.proofs.Counts.{same-density, same-totals}
 
 -- the totals after sheets that come one after the other
@@ -25,21 +26,14 @@ totalsAfter t (c ∷ l) = totalsAfter (totalsWith t c) l
 abbrev pub mostEdges : ℕ
 mostEdges = 1056
 
-pub record SmallCounts (d : Density) : Type 0 where
-  pub blocked : d .blocked ≤ mostEdges
-  pub events : d .events ≤ mostEdges
-  pub task-edges : d .«task_edges» ≤ mostEdges
-  pub event-edges : d .«event_edges» ≤ mostEdges
-  pub task-event-edges : d .«task_event_edges» ≤ mostEdges
-
 abbrev pub AllSmall : List Counted → Type 0
 AllSmall [] = Unit {0}
-AllSmall (c ∷ l) = SmallCounts (c .density) × AllSmall l
+AllSmall (c ∷ l) = Small (c .density) × AllSmall l
 
 -- one of the totals, and what a sheet adds to it where the sum does not wrap
 record Total (total : Totals → ℕ) (number : Counted → ℕ) : Type 0 where
   pub adds : (t : Totals) (c : Counted) → total t + number c < 2 ^ 64 → total (totalsWith t c) ≡ total t + number c
-  pub small : (c : Counted) → SmallCounts (c .density) → number c ≤ mostEdges
+  pub small : (c : Counted) → Small (c .density) → number c ≤ mostEdges
 
 module _ {total : Totals → ℕ} {number : Counted → ℕ} (T : Total total number) where
   total-after : (t : Totals) (l : List Counted) → AllSmall l → total t + mostEdges * length l < 2 ^ 64
@@ -68,7 +62,7 @@ record Adding (total : Totals → ℕ) (number : Density → ℕ) : Type 0 where
   pub none : total noTotals ≡ 0
   pub more : (t : Totals) (d : Density) → total (withAccepted t d) ≡ sum (total t) (number d)
   pub same : (t : Totals) → total (withRefused t) ≡ total t
-  pub few : (d : Density) → SmallCounts d → number d ≤ mostEdges
+  pub few : (d : Density) → Small d → number d ≤ mostEdges
 
 of-accepted : {total : Totals → ℕ} {number : Density → ℕ} → Adding total number → Total total (ofAccepted number)
 unfolding totalsWith
@@ -94,7 +88,7 @@ module _ (l : List Counted) (few : length l ≤ mostSheets) (small : AllSmall l)
   exact total number A = total-exact (of-accepted A) l few small (A .none)
 
   exact-count : (count : Density → ℕ) → ((a b : Density) → count (sumOfDensities a b) ≡ sum (count a) (count b))
-      → ((d : Density) → SmallCounts d → count d ≤ mostEdges) → count noDensity ≡ 0
+      → ((d : Density) → Small d → count d ≤ mostEdges) → count noDensity ≡ 0
       → count (totalsAfter noTotals l .density) ≡ addedUp (ofAccepted count) l
   exact-count count more few none =
       exact (λ t. count (t .density)) count (record { none = none; more = λ t d. more (t .density) d; same = λ t. refl; few = few })
@@ -106,23 +100,8 @@ module _ (l : List Counted) (few : length l ≤ mostSheets) (small : AllSmall l)
       same-totals (exact (λ t. t .sheets) (λ d. 1) (record { none = refl; more = λ t d. refl; same = λ t. refl; few = λ d s. omega arith }))
       (total-exact of-refused l few small refl)
       (same-density
-      (exact-count (λ d. d .blocked) (λ a b. refl) (λ d s. s .blocked) refl)
-      (exact-count (λ d. d .events) (λ a b. refl) (λ d s. s .events) refl)
-      (exact-count (λ d. d .«task_edges») (λ a b. refl) (λ d s. s .task-edges) refl)
-      (exact-count (λ d. d .«event_edges») (λ a b. refl) (λ d s. s .event-edges) refl)
-      (exact-count (λ d. d .«task_event_edges») (λ a b. refl) (λ d s. s .task-event-edges) refl))
-
--- each sheet is accepted or refused
-one-more : (b : Bool) (a r n : ℕ) → a + r ≡ n → (cond b 1 0 + a) + (cond b 0 1 + r) ≡ suc n
-one-more true a r n e = omega arith
-one-more false a r n e = omega arith
-
-pub all-counted : (l : List Counted) → exactTotals l .sheets + exactTotals l .refused ≡ length l
-unfolding exactTotals
-all-counted [] = refl
-all-counted (c ∷ l) =
-    one-more (eqb (c .answer) done) (addedUp (ofAccepted (λ d. 1)) l) (addedUp ofRefused l) (length l) (all-counted l)
-
--- so many sheets there were
-pub done-exact : (l : List Counted) → length l ≤ mostSheets → AllSmall l → doneOf (totalsAfter noTotals l) ≡ length l
-done-exact l few small = rw (totals-exact l few small) (let e = all-counted l in omega arith)
+      (exact-count (λ d. d .blocked) (λ a b. refl) (λ d s. omega (arith, s .blocked)) refl)
+      (exact-count (λ d. d .events) (λ a b. refl) (λ d s. omega (arith, s .events)) refl)
+      (exact-count (λ d. d .«task_edges») (λ a b. refl) (λ d s. omega (arith, s .task-edges)) refl)
+      (exact-count (λ d. d .«event_edges») (λ a b. refl) (λ d s. omega (arith, s .event-edges)) refl)
+      (exact-count (λ d. d .«task_event_edges») (λ a b. refl) (λ d s. omega (arith, s .task-event-edges)) refl))

@@ -7,15 +7,15 @@ use mathlib.Core.Logic.{_⊎_, inl, inr}
 use mathlib.Core.Bool.{Bool, true, false, cond}
 use native.Mathlib.Decide.{decLt}
 use native.Mathlib.Omega.{arith}
-use lib.Dec.{eqb, leb}
+use lib.Dec.{eqb}
 use lib.ListN.{length, length-append}
 use borrow.Author.Tests.{ne-eqb, le-leb, eqb-true}
-use Rattle.answers.specs.Answers.{endsInside, bytesAfter}
+use Rattle.answers.specs.Answers.{endsInside}
 use Rattle.sheet.specs.Got.{Got, value, refused}
 use Rattle.sheet.specs.Number.{plainAt, numberAt}
 use Rattle.sheet.proofs.Numbers.{Bytes}
-use Rattle.sheet_file.specs.Piece.{mostSheets, largestLength, largestPiece, afterLength, pieceOf, wantedAfter, wantedOf}
-use Rattle.sheet_file.specs.declared.piece.Piece.the-variants.{Sheet, Stopped, Ended}
+use Rattle.sheet_file.specs.Piece.{largestLength, afterLength, pieceOf}
+use Rattle.sheet_file.specs.Parts.{largestPiece, wantedAfter, wantedOf}
 use Rattle.sheet_file.proofs.OfParts.{number-part, number-there, number-end}
 use Rattle.sheet_file.proofs.Pieces.{length-read}
 
@@ -29,7 +29,8 @@ module _ (bytes : List ℕ) where
   unfolding wantedOf
   wanted-more n to e i q = rw (q, e, i) refl
 
-  pub wanted-all : (n to : ℕ) → numberAt bytes largestLength 0 ≡ refused n → (n ≡ endsInside → ⊥) → to ≡ length bytes → to ≡ wantedOf bytes
+  pub wanted-all : (n to : ℕ) → numberAt bytes largestLength 0 ≡ refused n → (n ≡ endsInside → ⊥) → to ≡ length bytes
+      → to ≡ wantedOf bytes
   unfolding wantedOf
   wanted-all n to e i q = rw (q, e, ne-eqb n endsInside i) refl
 
@@ -85,7 +86,7 @@ module _ (part rest : List ℕ) (done : ℕ) (enough : wantedOf part ≤ length 
       go (inr e) =
           rw (none part some, none (part ++ rest) (omega (arith, length-append part rest, some)), e, same-after (numberAt part largestLength 0) refl) refl
 
--- so what is wanted is never less than what is there, if it was more before the last bytes and these were no more
+-- what is wanted is never less than what is there, if what was there before wanted as much
 module _ (part rest : List ℕ) (within : length (part ++ rest) ≤ wantedOf part) where
   pub wanted-grows : length (part ++ rest) ≤ wantedOf (part ++ rest)
   unfolding wantedOf
@@ -104,22 +105,3 @@ module _ (part rest : List ℕ) (within : length (part ++ rest) ≤ wantedOf par
           let past = number-end part rest largestLength n at p e in
           omega arith
       go (value n at) e (inr q) = let same = wanted-value part n at (at + n) (sym q ∙ e) refl in omega arith
-
--- a sheet that comes next has as many bytes, with its length, as are wanted
-pub sheet-wanted : (bytes : List ℕ) (done : ℕ) {from to : ℕ} → pieceOf bytes done ≡ Sheet from to → to ≡ wantedOf bytes
-unfolding pieceOf wantedOf
-sheet-wanted bytes done {from} {to} e = some (eqb (length bytes) 0) (leb mostSheets done) e
-  where
-    inside : (n at : ℕ) (b : Bool) → cond b (Sheet at (at + n)) (Stopped endsInside) ≡ Sheet from to → to ≡ at + n
-    inside n at true e = let q : at + n ≡ to = cc in omega arith
-    inside n at false e = absurd (let z : _≡_ {A = ℕ} 0 1 = cc in omega arith)
-
-    after : (g : Got ℕ) → afterLength bytes g ≡ Sheet from to → to ≡ wantedAfter bytes g
-    after (value n at) e = inside n at (leb (at + n) (length bytes)) e
-    after (refused n) e = absurd (let z : _≡_ {A = ℕ} 0 1 = cc in omega arith)
-
-    some : (b c : Bool) → cond b Ended (cond c (Stopped bytesAfter) (afterLength bytes (numberAt bytes largestLength 0))) ≡ Sheet from to
-        → to ≡ wantedAfter bytes (numberAt bytes largestLength 0)
-    some true c e = absurd (let z : _≡_ {A = ℕ} 0 1 = cc in omega arith)
-    some false true e = absurd (let z : _≡_ {A = ℕ} 0 1 = cc in omega arith)
-    some false false e = after (numberAt bytes largestLength 0) e

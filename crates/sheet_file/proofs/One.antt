@@ -5,11 +5,10 @@ use Prim.Native.Nat.{ℕ}
 use native.Mathlib.Decide.{ℕ-discrete}
 use native.Mathlib.Omega.{arith}
 use Rattle.answers.specs.Answers.{done}
-use Rattle.density.proofs.Decided.{density-one, density-small}
+use Rattle.density.proofs.Decided.{Small, density-one, density-small}
 use Rattle.sheet.specs.Reader.{sheetAt}
 use Rattle.sheet_file.specs.Counted.{CountedOf}
 use Rattle.sheet_file.specs.declared.counted.Counted.{Counted}
-use Rattle.sheet_file.proofs.Added.{SmallCounts}
 
 module _ (sheet : List ℕ) where
   pub counted-one : (c d : Counted) → CountedOf sheet c → CountedOf sheet d → c ≡ d
@@ -22,19 +21,11 @@ module _ (sheet : List ℕ) where
       densities (yes e) = density-one (sheetAt sheet .table) (c .density) (d .density) (x .density e) (y .density (sym answers ∙ e))
       densities (no n) = x .none n ∙ sym (y .none (λ e. n (answers ∙ e)))
 
-  pub counted-small : (c : Counted) → CountedOf sheet c → SmallCounts (c .density)
+  pub counted-small : (c : Counted) → CountedOf sheet c → Small (c .density)
   counted-small c x = go (ℕ-discrete (c .answer) done)
     where
-      go : Dec (c .answer ≡ done) → SmallCounts (c .density)
-      go (yes e) =
-          let s = density-small (sheetAt sheet .table) (c .density) (x .density e) in
-          record {
-            blocked = omega (arith, s .blocked);
-            events = omega (arith, s .events);
-            task-edges = omega (arith, s .task-edges);
-            event-edges = omega (arith, s .event-edges);
-            task-event-edges = s .task-event-edges;
-          }
+      go : Dec (c .answer ≡ done) → Small (c .density)
+      go (yes e) = density-small (sheetAt sheet .table) (c .density) (x .density e)
       go (no n) = rw (x .none n) (record {
         blocked = omega arith;
         events = omega arith;

@@ -13,6 +13,7 @@ use Rattle.sheet.specs.Got.{Got, value, refused}
 use Rattle.sheet.specs.Number.{numberAt}
 use Rattle.sheet.proofs.Same.{same-holds}
 use Rattle.sheet.proofs.Numbers.{Bytes, number-ok}
+use Rattle.sheet_file.specs.Parts.{wantedOf}
 use Rattle.sheet_file.specs.Piece.{mostSheets, largestLength, afterLength, pieceOf}
 use Rattle.sheet_file.specs.declared.piece.Piece.the-variants.{Sheet, Stopped, Ended}
 
@@ -46,32 +47,34 @@ module _ (bytes : List ℕ) (done : ℕ) where
         pub piece-past : (m : ℕ) → m ≡ endsInside → length bytes < at + n → Stopped m ≡ pieceOf bytes done
         piece-past m q f = rw q (sym (on e ∙ rw (lt-leb (at + n) (length bytes) f) refl))
 
--- a sheet that comes next is one of the thousand, and stands in the file
+-- a sheet that comes next is one of the thousand, stands in the file, and has as many bytes, with its length, as are wanted
 pub record Within (bytes : List ℕ) (done from to : ℕ) : Type 0 where
   pub rises : from ≤ to
   pub ends : to ≤ length bytes
   pub few : done < mostSheets
+  pub wanted : to ≡ wantedOf bytes
 
 pub sheet-within : (bytes : List ℕ) (done : ℕ) {from to : ℕ} → pieceOf bytes done ≡ Sheet from to → Within bytes done from to
-unfolding pieceOf
+unfolding pieceOf wantedOf
 sheet-within bytes done {from} {to} e = none (eqb (length bytes) 0) e
   where
-    after : (g : Got ℕ) → done < mostSheets → afterLength bytes g ≡ Sheet from to → Within bytes done from to
-    after (refused n) few e = absurd (let z : _≡_ {A = ℕ} 0 1 = cc in omega arith)
-    after (value n at) few e = inside (leb (at + n) (length bytes)) refl e
+    after : (g : Got ℕ) → numberAt bytes largestLength 0 ≡ g → done < mostSheets → afterLength bytes g ≡ Sheet from to
+        → Within bytes done from to
+    after (refused n) r few e = absurd (let z : _≡_ {A = ℕ} 0 1 = cc in omega arith)
+    after (value n at) r few e = inside (leb (at + n) (length bytes)) refl e
       where
         inside : (b : Bool) → leb (at + n) (length bytes) ≡ b → cond b (Sheet at (at + n)) (Stopped endsInside) ≡ Sheet from to
             → Within bytes done from to
         inside true h e =
             let x : at ≡ from = cc in
             let y : at + n ≡ to = cc in
-            record { rises = omega arith; ends = omega (arith, leb-true (at + n) (length bytes) h); few = few }
+            record { rises = omega arith; ends = omega (arith, leb-true (at + n) (length bytes) h); few = few; wanted = rw r (sym y) }
         inside false h e = absurd (let z : _≡_ {A = ℕ} 0 1 = cc in omega arith)
 
     over : (b : Bool) → leb mostSheets done ≡ b → cond b (Stopped bytesAfter) (afterLength bytes (numberAt bytes largestLength 0)) ≡ Sheet from to
         → Within bytes done from to
     over true h e = absurd (let z : _≡_ {A = ℕ} 0 1 = cc in omega arith)
-    over false h e = after (numberAt bytes largestLength 0) (leb-false mostSheets done h) e
+    over false h e = after (numberAt bytes largestLength 0) refl (leb-false mostSheets done h) e
 
     none : (b : Bool) → cond b Ended (cond (leb mostSheets done) (Stopped bytesAfter) (afterLength bytes (numberAt bytes largestLength 0))) ≡ Sheet from to
         → Within bytes done from to

@@ -18,10 +18,6 @@ mostSheets = 1000
 abbrev pub largestLength : ℕ
 largestLength = 4096
 
--- three groups of a length, and one sheet: no piece has more bytes
-abbrev pub largestPiece : ℕ
-largestPiece = 4099
-
 -- "one that is refused or runs past the end (30) .. stops the run with that number"; else the sheet's bytes stand from `at` on
 abbrev pub afterLength : List ℕ → Got ℕ → Piece
 afterLength bytes (value n at) = cond (leb (at + n) (length bytes)) (Sheet at (at + n)) (Stopped endsInside)
@@ -32,11 +28,3 @@ unfoldable pub pieceOf : List ℕ → ℕ → Piece
 pieceOf bytes done =
     cond (eqb (length bytes) 0) Ended
     (cond (leb mostSheets done) (Stopped bytesAfter) (afterLength bytes (numberAt bytes largestLength 0)))
-
--- how many bytes what comes next has, as far as these tell: a length that goes on has one more than there are
-abbrev pub wantedAfter : List ℕ → Got ℕ → ℕ
-wantedAfter bytes (value n at) = at + n
-wantedAfter bytes (refused n) = cond (eqb n endsInside) (length bytes + 1) (length bytes)
-
-unfoldable pub wantedOf : List ℕ → ℕ
-wantedOf bytes = wantedAfter bytes (numberAt bytes largestLength 0)

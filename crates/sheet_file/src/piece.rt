@@ -1,6 +1,7 @@
 // What comes next in a file of sheets.
 ghost use mathlib.Core.Path.{_≡_};
-ghost use Rattle.sheet_file.specs.Piece.{pieceOf, wantedOf, largestPiece};
+ghost use Rattle.sheet_file.specs.Piece.{pieceOf};
+ghost use Rattle.sheet_file.specs.Parts.{wantedOf, largestPiece};
 ghost use Prim.Native.Nat.{_≤_};
 ghost use lib.ListN.{length};
 use answers::BYTES_AFTER;

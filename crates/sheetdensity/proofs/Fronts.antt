@@ -5,7 +5,7 @@ use Prim.Native.Nat.{ℕ, _+_, _≤_}
 use native.Mathlib.Omega.{arith}
 use lib.ListN.{length, take, drop, length-take, take-append-drop}
 use lib.Seq.{take-take, take-append-le, length-take-le}
-use Rattle.sheet_file.specs.Piece.{wantedOf}
+use Rattle.sheet_file.specs.Parts.{wantedOf}
 use Rattle.sheet_file.proofs.Enough.{wanted-grows}
 
 pub front-short : (n m : ℕ) (l : List ℕ) → length l ≡ m → length (take n l) ≤ m

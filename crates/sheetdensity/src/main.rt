@@ -10,7 +10,7 @@ ghost use mathlib.Core.Bool.{false};
 ghost use Prim.Native.Nat.{_≤_};
 ghost use lib.ListN.{length, take};
 ghost use Rattle.io.specs.Counts.{Counts};
-ghost use Rattle.sheet_file.specs.Piece.{largestPiece, wantedOf};
+ghost use Rattle.sheet_file.specs.Parts.{largestPiece, wantedOf};
 
 // How many bytes were taken in, whether the file has come to its end, and whether a read failed.
 struct Input {

@@ -3,7 +3,8 @@ use mathlib.Core.Path.{_≡_}
 use Prim.Native.Nat.{_-_}
 use lib.ListN.{length}
 use borrow.Author.Needs.{needs}
-use Rattle.sheet_file.specs.Piece.{mostSheets, largestPiece}
+use Rattle.sheet_file.specs.Piece.{mostSheets}
+use Rattle.sheet_file.specs.Parts.{largestPiece}
 use Rattle.sheet_file.specs.Totals.{doneOf}
 use Rattle.demands.proofs.OfFiles.{text-within, fewer-left, step-on}
 use Rattle.sheetdensity.proofs.run.Statement.{statement}

@@ -8,7 +8,7 @@ use native.Mathlib.Omega.{arith}
 use borrow.Author.Needs.{needs}
 use borrow.Rule.Slice.PartMut.{putMid}
 use Rattle.io.proofs.Counting.{counts, front}
-use Rattle.sheet_file.specs.Piece.{largestPiece, wantedOf}
+use Rattle.sheet_file.specs.Parts.{largestPiece, wantedOf}
 use Rattle.sheetdensity.proofs.Fronts.{front-short, front-stays, more-wanted}
 use Rattle.sheetdensity.proofs.take_in.Statement.{statement}
 use Rattle.sheetdensity.proofs.take_in.Tie as tie
