@@ -109,7 +109,8 @@ power-iff t k = (λ h. go h (ℕ-discrete k t), λ e. rw e (bit-power t))
     go h (yes e) = e
     go h (no e) = let z = bit-power-other t k e in absurd (omega arith)
 
--- ---- r is m with t put into it; with t taken out, which is what `take` promises; without t unless it stays, which is what `kept` does
+-- ---- r is m with t put into it; with t taken out, which is what `take` promises; without t unless it stays, which is what `kept` does; with t or without it,
+-- as told, which is what `marked` does
 abbrev pub Put : ℕ → ℕ → ℕ → Type 0
 Put m t r = (k : ℕ) → Has r k ↔ (Has m k ⊎ ((k < 32) × (k ≡ t)))
 
@@ -118,6 +119,9 @@ Taken m t r = (k : ℕ) → Has r k ↔ (Has m k × (k ≡ t → ⊥))
 
 abbrev pub Kept : ℕ → ℕ → Bool → ℕ → Type 0
 Kept m t stays r = (k : ℕ) → Has r k ↔ (Has m k × (k ≡ t → stays ≡ true))
+
+abbrev pub Marked : ℕ → ℕ → Bool → ℕ → Type 0
+Marked m t inside r = (k : ℕ) → Has r k ↔ (((k < 32) × (k ≡ t) × (inside ≡ true)) ⊎ (Has m k × (k ≡ t → ⊥)))
 
 -- the set without t, as a number
 pub without-taken : (m t : ℕ) → Taken m t (m - bitAnd m (2 ^ t))

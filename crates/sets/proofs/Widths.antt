@@ -8,7 +8,7 @@ use lib.Pow.{pow-pos, shr-shr, split}
 use Rattle.sets.specs.Set.{Has}
 use Rattle.sets.proofs.Members.{none-zero, same-set}
 
-above : (n : ℕ) → n < 2 ^ n
+pub above : (n : ℕ) → n < 2 ^ n
 above zero = omega arith
 above (suc n) = let z = above n in rw (pow-suc 2 n) (omega arith)
 
