@@ -10,27 +10,28 @@ use borrow.Author.Tests.{eq-eqb, ne-eqb}
 use Rattle.deadlock.specs.Parts.{stepOf, goOf, lowOf, onceOf, Filled}
 
 module _ (next : List ℕ) (m : ℕ) where
-  left : (i : ℕ) → i < 32 → 32 - i ≡ suc (32 - (i + 1))
-  left i l = omega arith
+  left : (n i : ℕ) → i < n → n - i ≡ suc (n - (i + 1))
+  left n i l = omega arith
 
-  pub go-turn : (t i r : ℕ) → i < 32 → r ≡ stepOf next m t → goOf next m t (32 - i) ≡ goOf next m r (32 - (i + 1))
+  pub go-turn : (n t i r : ℕ) → i < n → r ≡ stepOf next m t → goOf next m t (n - i) ≡ goOf next m r (n - (i + 1))
   unfolding goOf
-  go-turn t i r l e = rw (left i l, e) refl
+  go-turn n t i r l e = rw (left n i l, e) refl
 
-  pub low-turn : (t low i r low′ : ℕ) → i < 32 → r ≡ stepOf next m t → low′ ≡ min r low → lowOf next m t low (32 - i) ≡ lowOf next m r low′ (32 - (i + 1))
+  pub low-turn : (n t low i r low′ : ℕ) → i < n → r ≡ stepOf next m t → low′ ≡ min r low
+      → lowOf next m t low (n - i) ≡ lowOf next m r low′ (n - (i + 1))
   unfolding lowOf
-  low-turn t low i r low′ l e q = rw (left i l, q, e) refl
+  low-turn n t low i r low′ l e q = rw (left n i l, q, e) refl
 
-  done : (i : ℕ) → 32 ≤ i → 32 - i ≡ 0
-  done i h = omega arith
+  done : (n i : ℕ) → n ≤ i → n - i ≡ 0
+  done n i h = omega arith
 
-  pub go-end : (t i : ℕ) → 32 ≤ i → goOf next m t (32 - i) ≡ t
+  pub go-end : (n t i : ℕ) → n ≤ i → goOf next m t (n - i) ≡ t
   unfolding goOf
-  go-end t i h = rw (done i h) refl
+  go-end n t i h = rw (done n i h) refl
 
-  pub low-end : (t low i : ℕ) → 32 ≤ i → lowOf next m t low (32 - i) ≡ low
+  pub low-end : (n t low i : ℕ) → n ≤ i → lowOf next m t low (n - i) ≡ low
   unfolding lowOf
-  low-end t low i h = rw (done i h) refl
+  low-end n t low i h = rw (done n i h) refl
 
   -- `front` is in its places; what follows from `task` on is still to come
   pub record Turning (low : ℕ) (tasks : List ℕ) (task i : ℕ) : Type 0 where
@@ -52,7 +53,7 @@ module _ (next : List ℕ) (m : ℕ) where
     written : set tasks i task ≡ g .front ++ (task ∷ []) ++ replicate (32 - (i + 1)) 255
     written =
         let rest = replicate {A = ℕ} (32 - (i + 1)) 255 in
-        let p : tasks ≡ g .front ++ 255 ∷ rest = rw (left i l) at (g .places) in
+        let p : tasks ≡ g .front ++ 255 ∷ rest = rw (left 32 i l) at (g .places) in
         ap (λ x. set x i task) p ∙ set-at (g .front) 255 rest task i (g .count) ∙ sym (append-snoc (g .front) task rest)
 
     longer : length (g .front ++ (task ∷ [])) ≡ i + 1
@@ -66,7 +67,7 @@ module _ (next : List ℕ) (m : ℕ) where
       front = g .front ++ (task ∷ []);
       count = longer;
       all =
-          (let q : onceOf next m task low (32 - i) ≡ task ∷ onceOf next m r low (32 - (i + 1)) = rw (left i l, ← e, ne-eqb r low n) refl in
+          (let q : onceOf next m task low (32 - i) ≡ task ∷ onceOf next m r low (32 - (i + 1)) = rw (left 32 i l, ← e, ne-eqb r low n) refl in
           g .all ∙ ap (λ x. g .front ++ x) q ∙ sym (append-snoc (g .front) task (onceOf next m r low (32 - (i + 1)))));
       places = written;
     }
@@ -74,7 +75,7 @@ module _ (next : List ℕ) (m : ℕ) where
     pub turn-back : r ≡ low → Filled (onceOf next m low low 32) (record { closed = true; length = i + 1; tasks = set tasks i task })
     unfolding onceOf
     turn-back b =
-        let q : onceOf next m task low (32 - i) ≡ task ∷ [] = rw (left i l, ← e, eq-eqb r low b) refl in
+        let q : onceOf next m task low (32 - i) ≡ task ∷ [] = rw (left 32 i l, ← e, eq-eqb r low b) refl in
         rw (g .all, q) (filled (g .front ++ (task ∷ [])) (set tasks i task) (i + 1) longer written)
 
   pub turn-all : (low : ℕ) (tasks : List ℕ) (task : ℕ) → Turning low tasks task 32

@@ -2,7 +2,7 @@
 use mathlib.Core.Path.{_≡_}
 use mathlib.Core.List.{List}
 use mathlib.Core.Logic.{_↔_}
-use Prim.Native.Nat.{ℕ, suc, _<_}
+use Prim.Native.Nat.{ℕ, suc}
 use lib.ListN.{getD}
 use Rattle.sets.specs.Set.{Has}
 
@@ -12,9 +12,9 @@ pub record EndlessWalk {A : Type 0} (Edge : A → A → Type 0) (a : A) : Type 0
   pub starts : at 0 ≡ a
   pub goes : (k : ℕ) → Edge (at k) (at (suc k))
 
--- edges kept as a set for each of 32 tasks: from t to those in row t
-abbrev pub Row : List ℕ → ℕ → ℕ → Type 0
-Row rows t u = (t < 32) × Has (getD rows t 0) u
+-- edges kept as a set for each of some tasks: from t of `among` to those in row t
+abbrev pub Row : ℕ → List ℕ → ℕ → ℕ → Type 0
+Row among rows t u = Has among t × Has (getD rows t 0) u
 
 -- "Named: tasks from which an endless walk exists" (document 01, 'Stuck')
 pub record NamedBy (Edge : ℕ → ℕ → Type 0) (m : ℕ) : Type 0 where

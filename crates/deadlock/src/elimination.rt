@@ -1,11 +1,11 @@
 ghost use Rattle.deadlock.specs.Walk.{Row, NamedBy};
 
-// The tasks from which an endless walk exists along the rows of edges: a task with no edge into what is left is taken out, and the
+// The tasks from which an endless walk exists along the rows of some tasks: one with no edge into what is left is taken out, and the
 // search begins again.
-pub fn named(rows: [u32; 32]) -> u32
-    ensures { λ r. ⌜ NamedBy (Row rows) r ⌝ }
+pub fn named(rows: [u32; 32], among: u32) -> u32
+    ensures { λ r. ⌜ NamedBy (Row among rows) r ⌝ }
 {
-    let mut left: u32 = 0xffff_ffff;
+    let mut left = among;
     let mut task: usize = 0;
     while task < 32 {
         if sets::has(left, task) {

@@ -12,13 +12,15 @@ pub struct Round {
 }
 
 // The ring of the walk from the lowest named task, where from task t it steps to next[t]. A number there that is no named task's is "no
-// named task to step to": where the walk meets one it is not closed.
+// named task to step to": where the walk meets one it is not closed. The ring takes as many steps as there are named tasks, which is
+// the customer's own bound: by then the walk is in the part that repeats, or has stopped.
 pub fn ring(next: [u8; 32], named: u32) -> Round
     ensures { λ r. ⌜ RingIn (Has named) (Next next) r ⌝ }
 {
-    let late = far(next, named, sets::lowest(named));
+    let steps = sets::size(named);
+    let late = far(next, named, sets::lowest(named), steps);
     if late < 32 {
-        once(next, named, lowest_on(next, named, late))
+        once(next, named, lowest_on(next, named, late, steps))
     } else {
         Round {
             closed: named == 0,
@@ -46,12 +48,12 @@ fn after(next: [u8; 32], named: u32, task: usize) -> usize
     }
 }
 
-// 32 steps on: by then the walk is in the part that repeats, or has stopped.
-fn far(next: [u8; 32], named: u32, from: usize) -> usize
-    ensures { λ r. ⌜ r ≡ goOf next named from 32 ⌝ }
+// So many steps on, or 32 where the walk has stopped.
+fn far(next: [u8; 32], named: u32, from: usize, steps: u32) -> usize
+    ensures { λ r. ⌜ r ≡ goOf next named from steps ⌝ }
 {
     let mut task = from;
-    for step in 0..32u8 {
+    for step in 0..steps {
         task = after(next, named, task);
     }
     task
@@ -63,13 +65,13 @@ fn lesser(a: usize, b: usize) -> usize
     if a < b { a } else { b }
 }
 
-// The lowest on 32 more steps, so of the whole part that repeats.
-fn lowest_on(next: [u8; 32], named: u32, from: usize) -> usize
-    ensures { λ r. ⌜ r ≡ lowOf next named from from 32 ⌝ }
+// The lowest on so many steps more; with as many as there are named tasks, that of the whole part that repeats.
+fn lowest_on(next: [u8; 32], named: u32, from: usize, steps: u32) -> usize
+    ensures { λ r. ⌜ r ≡ lowOf next named from from steps ⌝ }
 {
     let mut task = from;
     let mut low = from;
-    for more in 0..32u8 {
+    for more in 0..steps {
         task = after(next, named, task);
         low = lesser(task, low);
     }

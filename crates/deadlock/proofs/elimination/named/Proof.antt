@@ -1,22 +1,22 @@
--- The invariant: everybody with an endless walk is left, and all below `task` that are left have an edge into what is left.
+-- The invariant: everybody with an endless walk is left, only those of `among` are, and all below `task` that are left have an edge into what is left.
 use mathlib.Core.Bool.{true≢false}
 use mathlib.Core.Path.{_≡_, sym, _∙_}
 use Prim.Native.Nat.{_+_, _-_, _*_, _<_}
 use native.Mathlib.Omega.{arith}
 use Rattle.sets.proofs.Members.{taken-lt}
 use Rattle.deadlock.specs.Walk.{Row}
-use Rattle.deadlock.proofs.Clearing.{Clearing, clear-pass, clear-done, rows-start, rows-drop, rows-keep}
+use Rattle.deadlock.proofs.Clearing.{RowClearing, clear-pass, clear-done, rows-start, rows-drop, rows-keep}
 use Rattle.deadlock.proofs.elimination.named.Statement.{statement}
 use Rattle.deadlock.proofs.elimination.named.Tie as tie
 
 abbrev Inv-loop : tie.InvT-loop
-Inv-loop rows left₀ task₀ left task = Clearing (Row rows) left task
+Inv-loop among rows left₀ task₀ left task = RowClearing among rows left task
 
 abbrev μ-loop : tie.MeasureT-loop
-μ-loop rows left₀ task₀ left task = left * 33 + (32 - task)
+μ-loop among rows left₀ task₀ left task = left * 33 + (32 - task)
 
 loop-holds : tie.Need-loop-holds Inv-loop μ-loop
-loop-holds c = rows-start (c .args .t1)
+loop-holds c = rows-start (c .args .among) (c .args .t1) (c .fits .among .fits) _ (omega arith)
 
 has-requires : tie.Need-has-requires Inv-loop μ-loop
 has-requires c κs = tt
@@ -49,8 +49,10 @@ loop-again : tie.Need-loop-again Inv-loop μ-loop
 loop-again c =
     let at = c .before .before in
     let l = head at .loop in
+    let s = head at .before .args in
     let h : l .task < 32 = omega arith in
-    rows-drop (head at .before .args .t1) (l .left) (l .task) _ (l .inv) h (at .common .ensures) (c .before .if2 .taken) _ (c .take .ok) (c .take .ensures)
+    rows-drop (s .among) (s .t1) (l .left) (l .task) _ (l .inv) h (at .common .ensures) (omega (arith, c .before .if2 .taken)) _
+    (c .take .ok) (c .take .ensures)
 
 add-task : tie.Need-add-task Inv-loop μ-loop
 add-task c = omega arith
@@ -62,8 +64,9 @@ loop-again-2 : tie.Need-loop-again-2 Inv-loop μ-loop
 loop-again-2 c =
     let at = c .before in
     let l = head at .loop in
+    let s = head at .before .args in
     let h : l .task < 32 = omega arith in
-    rows-keep (head at .before .args .t1) (l .left) (l .task) _ (l .inv) h (at .common .ensures) (at .common .ok) (c .if2 .left)
+    rows-keep (s .among) (s .t1) (l .left) (l .task) _ (l .inv) h (at .common .ensures) (at .common .ok) (λ z. omega (arith, c .if2 .left))
 
 add-task-2 : tie.Need-add-task-2 Inv-loop μ-loop
 add-task-2 c = omega arith
@@ -74,14 +77,16 @@ loop-less-3 c = omega arith
 loop-again-3 : tie.Need-loop-again-3 Inv-loop μ-loop
 loop-again-3 c =
     let l = c .before .before .before .loop in
+    let s = c .before .before .before .before .args in
     let h : l .task < 32 = omega arith in
-    let rows = c .before .before .before .before .args .t1 in
-    clear-pass (Row rows) (l .left) (l .task) (l .inv) h (λ g. absurd (true≢false (sym (c .before .has .ensures .1 g) ∙ c .if1 .left)))
+    clear-pass (s .among) (Row (s .among) (s .t1)) (l .left) (l .task) (l .inv) h
+    (λ g. absurd (true≢false (sym (c .before .has .ensures .1 g) ∙ c .if1 .left)))
 
 returns : tie.Need-returns Inv-loop μ-loop
 returns c =
+    let s = c .before .before .args in
     let e : c .before .loop .task ≡ 32 = (let z = c .before .loop .inv .near in omega arith) in
-    clear-done (Row (c .before .before .args .t1)) _ (rw e at (c .before .loop .inv))
+    clear-done (s .among) (Row (s .among) (s .t1)) _ (rw e at (c .before .loop .inv))
 
 pub named-spec : {M : Type 1} → statement M
 named-spec =

@@ -1,5 +1,5 @@
--- The invariant: the steps that are left, from here, come to where 32 come from the start.
-use mathlib.Core.Path.{_≡_, refl, sym, _∙_}
+-- The invariant: the steps that are left, from here, come to where all of them come from the start.
+use mathlib.Core.Path.{_≡_, sym, ap, _∙_}
 use Prim.Native.Nat.{_-_, _≤_, _<_}
 use native.Mathlib.Omega.{arith}
 use Rattle.deadlock.specs.Parts.{goOf}
@@ -8,13 +8,13 @@ use Rattle.deadlock.proofs.ring.far.Statement.{statement}
 use Rattle.deadlock.proofs.ring.far.Tie as tie
 
 abbrev Inv-loop : tie.InvT-loop
-Inv-loop next named from task₀ step₀ task step = (step ≤ 32) × (goOf next named from 32 ≡ goOf next named task (32 - step))
+Inv-loop next named from steps task₀ step₀ task step = goOf next named from steps ≡ goOf next named task (steps - step)
 
 abbrev μ-loop : tie.MeasureT-loop
-μ-loop next named from task₀ step₀ task step = 32 - step
+μ-loop next named from steps task₀ step₀ task step = steps - step
 
 loop-holds : tie.Need-loop-holds Inv-loop μ-loop
-loop-holds c = (omega arith, refl)
+loop-holds c = ap (goOf _ _ _) (omega arith)
 
 after-requires : tie.Need-after-requires Inv-loop μ-loop
 after-requires c κs = tt
@@ -29,15 +29,15 @@ loop-again : tie.Need-loop-again Inv-loop μ-loop
 loop-again c =
     let s = c .before .before .before in
     let l = c .before .before .loop in
-    let h : l .step < 32 = omega arith in
-    (omega arith, l .inv .1 ∙ go-turn (s .args .next) (s .args .named) (l .task) (l .step) _ h (c .after .ensures))
+    let h : l .step < s .args .steps = omega arith in
+    l .inv ∙ go-turn (s .args .next) (s .args .named) _ (l .task) (l .step) _ h (c .after .ensures)
 
 returns : tie.Need-returns Inv-loop μ-loop
 returns c =
     let s = c .before .before in
     let l = c .before .loop in
-    let h : 32 ≤ l .step = omega arith in
-    sym (l .inv .1 ∙ go-end (s .args .next) (s .args .named) (l .task) (l .step) h)
+    let h : s .args .steps ≤ l .step = omega arith in
+    sym (l .inv ∙ go-end (s .args .next) (s .args .named) _ (l .task) (l .step) h)
 
 pub far-spec : {M : Type 1} → statement M
 far-spec =
