@@ -6,6 +6,7 @@ pub mod Written
 pub mod Soundness
 pub mod Impeded
 pub mod Looking
+pub mod Seating
 pub mod Filling
 pub mod One
 pub mod Rows

@@ -6,8 +6,9 @@ use Prim.Native.Nat.{ℕ, _+_, _*_, _-_, _%_, _^_, _<_}
 use native.Mathlib.Decide.{decLt}
 use native.Mathlib.Nat.{mod-eq-of-lt}
 use native.Mathlib.Omega.{arith}
+use lib.Dec.{ltb}
 use lib.ListN.{getD}
-use borrow.Author.Tests.{lt-ltb, le-ltb}
+use borrow.Author.Tests.{ltb-true, lt-ltb, le-ltb}
 use Rattle.sets.specs.Set.{Has}
 use Rattle.sets.proofs.Members.{full-has}
 use Rattle.sets.proofs.Loops.{Sifted, sift-done}
@@ -17,9 +18,9 @@ use Rattle.states.specs.Waiting.{Awaited}
 use Rattle.states.specs.declared.state.State.{State}
 use Rattle.states.specs.declared.state.State.the-variants.{Free, Running, Blocked}
 use Rattle.states.proofs.Events.{is-blocked, event-is, awaits-iff}
-use Rattle.states.proofs.Truth.{clash}
-use Rattle.hall.specs.Parts.{BlockedSet}
-use Rattle.hall.specs.Table.{stateAt}
+use Rattle.states.proofs.Truth.{clash, and-left, and-right}
+use Rattle.hall.specs.Parts.{BlockedSet, Late}
+use Rattle.hall.specs.Table.{stateAt, phaseAt}
 use Rattle.hall.specs.Waiting.{impedesOf, BlockedOn, Impedes, ImpedesTask}
 use Rattle.hall.specs.declared.table.Table.{Table}
 use Rattle.hall.proofs.Impeded.{blocked-below}
@@ -87,3 +88,27 @@ module _ (t : Table) (k : ℕ) (l : k < 32) where
 
     pub impedes-read : (b ≡ true) ↔ Impedes t k e
     impedes-read = (λ y. sym impedes-is ∙ y, λ y. impedes-is ∙ y)
+
+  -- whether its kept phase, read at e's column, is less than e's
+  pub late-read : (e : Awaited) (p : ℕ) (b : Bool) → p ≡ e .phaser .0 % 16 → b ≡ impedesAt true (getD (t .phases) (k * 16 + p) phase0) e
+      → (b ≡ true) ↔ Late t k e
+  unfolding impedesAt
+  late-read e p b column h = let q = h ∙ ap kept column in (λ y. into (sym q ∙ y), λ y. q ∙ from y)
+    where
+      kept : ℕ → Bool
+      kept j = impedesAt true (getD (t .phases) (k * 16 + j) phase0) e
+
+      n : ℕ
+      n = getD (t .phases) (k * 16 + e .phaser .0 % 16) phase0 .0
+
+      -- the phase in e's column is that at e's phaser
+      same : e .phaser .0 < 16 → phaseAt t k (e .phaser .0) ≡ n
+      same m = phase-in t k _ l m ∙ ap (λ j. getD (t .phases) (k * 16 + j) phase0 .0) (sym (mod-eq-of-lt m))
+
+      into : kept (e .phaser .0 % 16) ≡ true → Late t k e
+      into y =
+          let m = ltb-true _ 16 (and-left (ltb (e .phaser .0) 16) (ltb n (e .phase .0)) y) in
+          (m, rw (same m) (ltb-true n (e .phase .0) (and-right (ltb (e .phaser .0) 16) (ltb n (e .phase .0)) y)))
+
+      from : Late t k e → kept (e .phaser .0 % 16) ≡ true
+      from y = simp (lt-ltb _ 16 (y .0), lt-ltb n (e .phase .0) (rw (same (y .0)) at (y .1)))

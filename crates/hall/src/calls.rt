@@ -170,7 +170,7 @@ impl Table {
         if refusal != DONE {
             return self.refused(refusal);
         }
-        let phase = self.phase_at(caller, phaser);
+        let phase = seen.phase;
         let next = self.with_entry(target, phaser, true, phase);
         next.called(DONE, phase.0 as u64)
     }
@@ -189,12 +189,12 @@ impl Table {
     pub fn arrive(self, task: TaskNo, phaser: PhaserNo) -> Called
         ensures { λ r. ⌜ r ≡ arriveOf self (task .0) (phaser .0) ⌝ }
     {
-        let refusal = arrive_refusal(self.seen(task, phaser));
+        let seen = self.seen(task, phaser);
+        let refusal = arrive_refusal(seen);
         if refusal != DONE {
             return self.refused(refusal);
         }
-        let phase = self.phase_at(task, phaser);
-        let kept = phase.0;
+        let kept = seen.phase.0;
         let higher = kept + 1;
         let next = self.with_entry(task, phaser, true, Phase(higher));
         next.called(DONE, higher as u64)
@@ -216,11 +216,12 @@ impl Table {
     pub fn wait(self, task: TaskNo, phaser: PhaserNo) -> Called
         ensures { λ r. ⌜ r ≡ waitOf self (task .0) (phaser .0) ⌝ }
     {
-        let refusal = member_refusal(self.seen(task, phaser));
+        let seen = self.seen(task, phaser);
+        let refusal = member_refusal(seen);
         if refusal != DONE {
             return self.refused(refusal);
         }
-        let phase = self.phase_at(task, phaser);
+        let phase = seen.phase;
         self.waits(task, phaser, phase)
     }
 

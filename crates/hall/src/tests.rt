@@ -7,15 +7,30 @@ use answers::NO_TASK;
 use answers::NOT_BLOCKED;
 use answers::NOT_REACHED;
 use answers::NOT_SOUND;
+use states::state::Phase;
 use states::state::PhaserNo;
 use states::state::State;
 use states::state::TaskNo;
 use states::tests::Seen;
 use states::waiting::waits_at;
 ghost use mathlib.Core.Path.{_≡_};
+ghost use mathlib.Core.Bool.{false};
 ghost use Prim.Native.Nat.{_<_};
 ghost use Rattle.states.specs.Tests.{refusalOf};
 ghost use Rattle.hall.specs.Tests.{lowestFree, lowestUnopened, unused, seenAt, closePhaserTests, releaseTests};
+
+// What a row sees where there is no such entry.
+fn no_entry(sound: bool, state: State, opened: bool) -> Seen
+    ensures { λ r. ⌜ r ≡ record { sound = sound; state = state; opened = opened; member = false; phase = record { 0 = 0 } } ⌝ }
+{
+    Seen {
+        sound,
+        state,
+        opened,
+        member: false,
+        phase: Phase(0),
+    }
+}
 
 impl Table {
     // The lowest free task number, or 32.
@@ -70,17 +85,32 @@ impl Table {
         true
     }
 
-    // What a row sees of a task and a phaser.
+    // What a row sees of a task and a phaser. It is read here and not by a method for each part, since each method on a table copies the table.
     pub(crate) fn seen(self, task: TaskNo, phaser: PhaserNo) -> Seen
         ensures { λ r. ⌜ r ≡ seenAt self (task .0) (phaser .0) ⌝ }
     {
-        Seen {
-            sound: self.is_sound(),
-            state: self.state_at(task),
-            opened: self.open_at(phaser),
-            member: self.member_at(task, phaser),
-            phase: self.phase_at(task, phaser),
+        let sound = self.is_sound();
+        let k = task.0;
+        let p = phaser.0;
+        if k < 32 {
+            let found = self.tasks[k as usize];
+            let state = found.state;
+            if p < 16 {
+                let i = (k * 16 + p) as usize;
+                return Seen {
+                    sound,
+                    state,
+                    opened: self.opened[p as usize],
+                    member: self.members[i],
+                    phase: self.phases[i],
+                };
+            }
+            return no_entry(sound, state, false);
         }
+        if p < 16 {
+            return no_entry(sound, State::Free, self.opened[p as usize]);
+        }
+        no_entry(sound, State::Free, false)
     }
 
     pub(crate) fn close_phaser_refusal(self, phaser: PhaserNo) -> u32

@@ -1,11 +1,12 @@
 // Document 01, 'Stuck': who is blocked, who impedes whom, and whether every member has reached an event.
+use crate::seats::Seats;
 use crate::table::Table;
 use states::state::Event;
 use states::waiting::column;
 use states::waiting::event_of;
 use states::waiting::impedes;
 ghost use mathlib.Core.Path.{_≡_};
-ghost use Rattle.hall.specs.Parts.{BlockedSet, RowsOf};
+ghost use Rattle.hall.specs.Parts.{BlockedSet, RowsBy};
 ghost use Rattle.hall.specs.Waiting.{reachedOf};
 
 impl Table {
@@ -42,28 +43,28 @@ impl Table {
         set
     }
 
-    // For each of `among`, those of `among` that impede its event.
-    pub fn edges(self, among: u32) -> [u32; 32]
-        ensures { λ r. ⌜ RowsOf self among r ⌝ }
+    // For each of those seated, who of them impedes its event: only members of its phaser are looked at.
+    pub fn edges(self, seats: Seats) -> [u32; 32]
+        ensures { λ r. ⌜ RowsBy self seats r ⌝ }
     {
+        let members = seats.members;
         let mut rows = [0u32; 32];
-        let mut todo = among;
+        let mut todo = seats.all;
         while todo != 0 {
             let t = sets::lowest(todo);
             let task = self.tasks[t];
             let event = event_of(task);
             let place = column(event);
-            let mut impeders = among;
-            let mut left = among;
+            let mut impeders = members[place];
+            let mut left = impeders;
             while left != 0 {
                 let u = sets::lowest(left);
-                let at = u * 16 + place;
-                let phase = self.phases[at];
-                impeders = sets::kept(impeders, u, impedes(self.members[at], phase, event));
-                left = sets::take(left, u);
+                let phase = self.phases[u * 16 + place];
+                impeders = sets::kept(impeders, u, impedes(true, phase, event));
+                left = sets::rest(left);
             }
             rows[t] = impeders;
-            todo = sets::take(todo, t);
+            todo = sets::rest(todo);
         }
         rows
     }

@@ -1,9 +1,10 @@
-use mathlib.Core.Path.{_≡_, refl, sym, _∙_}
+use mathlib.Core.Path.{_≡_, refl, ap, sym, _∙_}
 use Rattle.hall.specs.Calls.{ruled, admitOf}
 use Rattle.hall.specs.Table.{stateAt, memberAt}
 use Rattle.hall.specs.Tests.{seenAt}
 use mathlib.Core.List.{List}
 use Rattle.states.specs.Tests.{Test, refusalOf, admitTests}
+use Rattle.states.specs.declared.tests.Seen.{Seen}
 use Rattle.hall.proofs.Ruled.{ruled-refused, admit-in-range}
 use borrow.Author.Needs.{needs}
 use Rattle.hall.proofs.table.Table.admit.Statement.{statement}
@@ -42,9 +43,6 @@ returns : tie.Need-returns
 unfolding admitOf
 returns c = c .refused .ensures ∙ ruled-refused _ _ _ _ (row (c .before .before)) (c .before .if1 .taken)
 
-phase-at-requires : tie.Need-phase-at-requires
-phase-at-requires c κs = search needs
-
 with-entry-requires : tie.Need-with-entry-requires
 with-entry-requires c κs = admit-in-range _ _ _ _ (passes (c .before))
 
@@ -58,7 +56,8 @@ returns-2 : tie.Need-returns-2
 unfolding admitOf ruled
 returns-2 c =
     let at = c .before .before .before in
-    simp (passes (at .before), c .called .ensures, c .before .before .with-entry .ensures, at .phase-at .ensures)
+    let phase = ap (λ (s : Seen). s .phase .0) (at .before .before .before .before .before .seen .ensures) in
+    simp (passes (at .before), c .called .ensures, c .before .before .with-entry .ensures, phase)
 
 pub admit-spec : {M : Type 1} → statement M
 admit-spec =
@@ -70,7 +69,6 @@ admit-spec =
     admit-refusal-requires
     refused-requires
     returns
-    phase-at-requires
     with-entry-requires
     cast-called
     called-requires

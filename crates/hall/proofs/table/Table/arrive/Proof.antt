@@ -2,7 +2,9 @@ use mathlib.Core.Path.{_≡_, ap, sym, _∙_}
 use native.Mathlib.Omega.{arith}
 use mathlib.Core.List.{List}
 use Rattle.states.specs.Tests.{Test, refusalOf, arriveTests}
+use Rattle.states.specs.declared.tests.Seen.{Seen}
 use Rattle.hall.specs.Calls.{ruled, arriveOf}
+use Rattle.hall.specs.Table.{phaseAt}
 use Rattle.hall.specs.Tests.{seenAt}
 use Rattle.hall.proofs.Ruled.{ruled-refused, arrive-in-range}
 use borrow.Author.Needs.{needs}
@@ -19,6 +21,10 @@ row c = c .arrive-refusal .ensures ∙ ap (λ s. refusalOf (arriveTests s)) (c .
 passes : (c : tie.Else1) → refusalOf (tests (c .before .before .before)) ≡ 0
 passes c = sym (row (c .before)) ∙ c .if1 .left
 
+-- the phase that was seen
+kept : (c : tie.After-seen) → c .seen .result .phase .0 ≡ phaseAt (c .before .args .self) (c .before .args .task .0) (c .before .args .phaser .0)
+kept c = ap (λ (s : Seen). s .phase .0) (c .seen .ensures)
+
 seen-requires : tie.Need-seen-requires
 seen-requires c κs = search needs
 
@@ -32,14 +38,11 @@ returns : tie.Need-returns
 unfolding arriveOf
 returns c = c .refused .ensures ∙ ruled-refused _ _ _ _ (row (c .before .before)) (c .before .if1 .taken)
 
-phase-at-requires : tie.Need-phase-at-requires
-phase-at-requires c κs = search needs
-
 add-higher : tie.Need-add-higher
-add-higher c = omega (arith, arrive-in-range _ _ _ (passes (c .before)), c .phase-at .ensures)
+add-higher c = omega (arith, arrive-in-range _ _ _ (passes c), kept (c .before .before))
 
 with-entry-requires : tie.Need-with-entry-requires
-with-entry-requires c κs = arrive-in-range _ _ _ (passes (c .before)) .0
+with-entry-requires c κs = arrive-in-range _ _ _ (passes c) .0
 
 cast-called : tie.Need-cast-called
 cast-called c = search needs
@@ -49,7 +52,9 @@ called-requires c κs = search needs
 
 returns-2 : tie.Need-returns-2
 unfolding arriveOf ruled
-returns-2 c = simp (passes (c .before .before .before), c .called .ensures, c .before .with-entry .ensures, c .before .before .phase-at .ensures)
+returns-2 c =
+    let at = c .before .before in
+    simp (passes at, c .called .ensures, c .before .with-entry .ensures, kept (at .before .before))
 
 pub arrive-spec : {M : Type 1} → statement M
 arrive-spec =
@@ -59,7 +64,6 @@ arrive-spec =
     arrive-refusal-requires
     refused-requires
     returns
-    phase-at-requires
     add-higher
     with-entry-requires
     cast-called

@@ -1,28 +1,36 @@
--- The invariants: outside, the rows of those that are not in `todo` are filled; inside, of those that were looked at, the ones that impede are kept.
+-- The invariants: outside, the rows of those that are not in `todo` are filled; inside, of those that were looked at, the ones that are late are kept.
 use Prim.Native.Nat.{_+_, _*_, _^_, _<_}
 use native.Mathlib.Omega.{arith}
-use Rattle.sets.proofs.Loops.{Sifted, sift-start, sift-if, lowest-has, lowest-lt, lowest-less}
-use Rattle.hall.specs.Waiting.{Impedes}
-use Rattle.hall.proofs.Filling.{Filled, fill-start, fill-more, fill-done}
-use Rattle.hall.proofs.Looking.{impedes-read}
+use borrow.Author.Needs.{needs}
+use mir.Syntax.{w32}
+use mir.Val.{Fits}
+use lib.ListN.{getD}
+use Rattle.sets.specs.Set.{Has}
+use Rattle.sets.proofs.Loops.{Sifted, sift-start, sift-if, sift-done, lowest-has, lowest-lt, lowest-less}
+use Rattle.states.specs.Parts.{eventOf}
+use Rattle.hall.specs.Parts.{Late, columnOf}
+use Rattle.hall.specs.Table.{stateAt}
+use Rattle.hall.proofs.Filling.{Filled, fill-start, fill-more, fill-done, late-row}
+use Rattle.hall.proofs.Looking.{event-read, late-read}
 use Rattle.hall.proofs.table.Table.edges.Statement.{statement}
 use Rattle.hall.proofs.table.Table.edges.Tie as tie
 
 abbrev Inv-loop2 : tie.InvT-loop2
-Inv-loop2 among self rows todo t event place impeders₀ left₀ impeders left =
-    (left < 2 ^ 32) × Sifted (λ u. Impedes self u event) among impeders left
+Inv-loop2 self members rows todo t event place impeders₀ left₀ impeders left =
+    (left < 2 ^ 32) × Sifted (λ u. Late self u event) (getD members place 0) impeders left
 
 abbrev μ-loop2 : tie.MeasureT-loop2
-μ-loop2 among self rows todo t event place impeders₀ left₀ impeders left = left
+μ-loop2 self members rows todo t event place impeders₀ left₀ impeders left = left
 
 abbrev Inv-loop : tie.InvT-loop
-Inv-loop among self rows₀ todo₀ rows todo = Filled self among todo rows
+Inv-loop self members rows₀ todo₀ rows todo =
+    Filled todo₀ (λ k u. Has (getD members (columnOf self k) 0) u × Late self u (eventOf (stateAt self k))) todo rows
 
 abbrev μ-loop : tie.MeasureT-loop
-μ-loop among self rows₀ todo₀ rows todo = todo
+μ-loop self members rows₀ todo₀ rows todo = todo
 
 loop-holds : tie.Need-loop-holds Inv-loop2 μ-loop2 Inv-loop μ-loop
-loop-holds c = fill-start _ _ (c .fits .among .fits)
+loop-holds c = let f : Fits w32 (c .before .args .seats .all) = search needs in fill-start _ _ (f .fits)
 
 lowest-requires : tie.Need-lowest-requires Inv-loop2 μ-loop2 Inv-loop μ-loop
 lowest-requires c κs = tt
@@ -43,8 +51,14 @@ event-of-requires c κs = tt
 column-requires : tie.Need-column-requires Inv-loop2 μ-loop2 Inv-loop μ-loop
 column-requires c κs = tt
 
+mul-impeders : tie.Need-mul-impeders Inv-loop2 μ-loop2 Inv-loop μ-loop
+mul-impeders c = let p = c .column .ensures in omega arith
+
+array-read-impeders : tie.Need-array-read-impeders Inv-loop2 μ-loop2 Inv-loop μ-loop
+array-read-impeders c = let p = c .column .ensures in omega arith
+
 loop2-holds : tie.Need-loop2-holds Inv-loop2 μ-loop2 Inv-loop μ-loop
-loop2-holds c = (c .before .before .before .before .before .before .fits .among .fits, sift-start _ _)
+loop2-holds c = let f : Fits w32 (getD (c .before .before .before .before .before .before .before .args .seats .members) (c .column .result) 0) = search needs in (f .fits, sift-start _ _)
 
 lowest-requires-2 : tie.Need-lowest-requires-2 Inv-loop2 μ-loop2 Inv-loop μ-loop
 lowest-requires-2 c κs = tt
@@ -57,20 +71,17 @@ module _ (c : tie.After-lowest2 Inv-loop2 μ-loop2 Inv-loop μ-loop) where
   near-entry : c .lowest2 .result * 16 + c .before .before .before .column .result < 512
   near-entry = let l = near in let p = c .before .before .before .column .ensures in omega arith
 
-mul-at : tie.Need-mul-at Inv-loop2 μ-loop2 Inv-loop μ-loop
-mul-at c = let l = near c in omega arith
-
-add-at : tie.Need-add-at Inv-loop2 μ-loop2 Inv-loop μ-loop
-add-at c = let l = near-entry c in omega arith
-
 mul-phase : tie.Need-mul-phase Inv-loop2 μ-loop2 Inv-loop μ-loop
-mul-phase c = let l = near-entry c in omega arith
+mul-phase c = let l = near c in omega arith
+
+add-phase : tie.Need-add-phase Inv-loop2 μ-loop2 Inv-loop μ-loop
+add-phase c = let l = near-entry c in omega arith
+
+mul-phase-2 : tie.Need-mul-phase-2 Inv-loop2 μ-loop2 Inv-loop μ-loop
+mul-phase-2 c = let l = near-entry c in omega arith
 
 element-copy-out-phase : tie.Need-element-copy-out-phase Inv-loop2 μ-loop2 Inv-loop μ-loop
 element-copy-out-phase c = near-entry c
-
-element-copy-out-impedes : tie.Need-element-copy-out-impedes Inv-loop2 μ-loop2 Inv-loop μ-loop
-element-copy-out-impedes c = near-entry (c .before)
 
 impedes-requires : tie.Need-impedes-requires Inv-loop2 μ-loop2 Inv-loop μ-loop
 impedes-requires c κs = tt
@@ -78,23 +89,25 @@ impedes-requires c κs = tt
 kept-requires : tie.Need-kept-requires Inv-loop2 μ-loop2 Inv-loop μ-loop
 kept-requires c κs = tt
 
-take-requires : tie.Need-take-requires Inv-loop2 μ-loop2 Inv-loop μ-loop
-take-requires c κs = tt
+rest-requires : tie.Need-rest-requires Inv-loop2 μ-loop2 Inv-loop μ-loop
+rest-requires c κs = tt
 
 -- from the end of a turn inside back to where its task was chosen
-abbrev chosen2 : tie.After-take Inv-loop2 μ-loop2 Inv-loop μ-loop → tie.After-lowest2 Inv-loop2 μ-loop2 Inv-loop μ-loop
-chosen2 c = c .before .before .before .before .before
+abbrev chosen2 : tie.After-rest Inv-loop2 μ-loop2 Inv-loop μ-loop → tie.After-lowest2 Inv-loop2 μ-loop2 Inv-loop μ-loop
+chosen2 c = c .before .before .before .before
 
 loop2-less : tie.Need-loop2-less Inv-loop2 μ-loop2 Inv-loop μ-loop
 loop2-less c =
-    let at = chosen2 c .before in
-    lowest-less (at .before .loop2 .inv .0) (at .loop2-test .taken) (chosen2 c .lowest2 .ensures) _ (c .take .ok) (c .take .ensures)
+    let low = chosen2 c in
+    let taken = c .rest .ensures _ (low .lowest2 .ensures) in
+    lowest-less (low .before .before .loop2 .inv .0) (low .before .loop2-test .taken) (low .lowest2 .ensures) _ (c .rest .ok) taken
 
 loop2-again : tie.Need-loop2-again Inv-loop2 μ-loop2 Inv-loop μ-loop
 loop2-again c =
-    let at = chosen2 c .before .before in
-    let iff = impedes-read _ _ (near (chosen2 c)) _ _ _ (at .before .column .ensures) (c .before .before .impedes .ensures) in
-    (c .take .ok, sift-if _ (at .loop2 .inv .1) (c .take .ensures) iff (c .before .kept .ensures))
+    let low = chosen2 c in
+    let at = low .before .before in
+    let late = late-read _ _ (near low) _ _ _ (at .before .column .ensures) (c .before .before .impedes .ensures) in
+    (c .rest .ok, sift-if _ (at .loop2 .inv .1) (c .rest .ensures _ (low .lowest2 .ensures)) late (c .before .kept .ensures))
 
 -- from the end of a turn outside back to where its task was chosen
 abbrev chosen : tie.After-loop2 Inv-loop2 μ-loop2 Inv-loop μ-loop → tie.After-lowest Inv-loop2 μ-loop2 Inv-loop μ-loop
@@ -106,24 +119,35 @@ mul-rows c = let l = mine (chosen c) in omega arith
 array-write-rows : tie.Need-array-write-rows Inv-loop2 μ-loop2 Inv-loop μ-loop
 array-write-rows c = mine (chosen c)
 
-take-requires-2 : tie.Need-take-requires-2 Inv-loop2 μ-loop2 Inv-loop μ-loop
-take-requires-2 c κs = tt
+rest-requires-2 : tie.Need-rest-requires-2 Inv-loop2 μ-loop2 Inv-loop μ-loop
+rest-requires-2 c κs = tt
 
 loop-less : tie.Need-loop-less Inv-loop2 μ-loop2 Inv-loop μ-loop
 loop-less c =
-    let at = chosen (c .before) .before in
-    lowest-less (at .before .loop .inv .fits) (at .loop-test .taken) (chosen (c .before) .lowest .ensures) _ (c .take2 .ok) (c .take2 .ensures)
+    let low = chosen (c .before) in
+    let taken = c .rest2 .ensures _ (low .lowest .ensures) in
+    lowest-less (low .before .before .loop .inv .fits) (low .before .loop-test .taken) (low .lowest .ensures) _ (c .rest2 .ok) taken
 
 loop-again : tie.Need-loop-again Inv-loop2 μ-loop2 Inv-loop μ-loop
 loop-again c =
-    let at = chosen (c .before) .before in
-    let here = lowest-has (at .before .loop .inv .fits) (at .loop-test .taken) (chosen (c .before) .lowest .ensures) in
-    let event = c .before .before .before .before .event-of .ensures in
-    let sifted = rw (c .before .loop2-test .left) at (c .before .before .loop2 .inv .1) in
-    fill-more _ _ _ _ _ _ _ _ (at .before .loop .inv) (mine (chosen (c .before))) here (c .take2 .ensures) event sifted (c .take2 .ok)
+    let low = chosen (c .before) in
+    let inv = low .before .before .loop .inv in
+    let here = lowest-has (inv .fits) (low .before .loop-test .taken) (low .lowest .ensures) in
+    let taken = c .rest2 .ensures _ (low .lowest .ensures) in
+    let column = c .before .before .before in
+    let event = event-read _ _ (mine low) _ (column .before .event-of .ensures) in
+    let sifted = sift-done _ _ _ (rw (c .before .loop2-test .left) at (c .before .before .loop2 .inv .1)) in
+    let members = low .before .before .before .before .args .seats .members in
+    let row = late-row _ members _ _ _ _ event (column .column .ensures) sifted in
+    fill-more _ _ _ _ _ _ _ inv (mine low) here taken row (c .rest2 .ok)
 
 returns : tie.Need-returns Inv-loop2 μ-loop2 Inv-loop μ-loop
-returns c = fill-done _ _ _ (rw (c .loop-test .left) at (c .before .loop .inv))
+returns c =
+    let done = rw (c .loop-test .left) at (c .before .loop .inv) in
+    record {
+      iff = λ k u. let p = fill-done _ _ done k u in (λ h. let x = p .0 h in (x .0, x .1 .0, x .1 .1), λ h. p .1 (h .0, (h .1, h .2)));
+      long = done .long;
+    }
 
 pub edges-spec : {M : Type 1} → statement M
 edges-spec =
@@ -139,21 +163,22 @@ edges-spec =
     element-copy-out-task
     event-of-requires
     column-requires
+    mul-impeders
+    array-read-impeders
     loop2-holds
     lowest-requires-2
-    mul-at
-    add-at
     mul-phase
+    add-phase
+    mul-phase-2
     element-copy-out-phase
-    element-copy-out-impedes
     impedes-requires
     kept-requires
-    take-requires
+    rest-requires
     loop2-less
     loop2-again
     mul-rows
     array-write-rows
-    take-requires-2
+    rest-requires-2
     loop-less
     loop-again
     returns)

@@ -1,6 +1,7 @@
 use mathlib.Core.Path.{_≡_, ap, sym, _∙_}
 use mathlib.Core.List.{List}
 use Rattle.states.specs.Tests.{Test, refusalOf, memberTests}
+use Rattle.states.specs.declared.tests.Seen.{Seen}
 use Rattle.hall.specs.Calls.{ruled, waitOf}
 use Rattle.hall.specs.Tests.{seenAt}
 use Rattle.hall.proofs.Ruled.{ruled-refused, member-in-range}
@@ -31,15 +32,14 @@ returns : tie.Need-returns
 unfolding waitOf
 returns c = c .refused .ensures ∙ ruled-refused _ _ _ _ (row (c .before .before)) (c .before .if1 .taken)
 
-phase-at-requires : tie.Need-phase-at-requires
-phase-at-requires c κs = search needs
-
 waits-requires : tie.Need-waits-requires
 waits-requires c κs = member-in-range _ _ _ (passes (c .before)) .0
 
 returns-2 : tie.Need-returns-2
 unfolding waitOf ruled
-returns-2 c = simp (passes (c .before .before), c .waits .ensures, c .before .phase-at .ensures)
+returns-2 c =
+    let at = c .before .before in
+    simp (passes at, c .waits .ensures, ap (λ (s : Seen). s .phase .0) (at .before .before .seen .ensures))
 
 pub wait-spec : {M : Type 1} → statement M
 wait-spec =
@@ -49,6 +49,5 @@ wait-spec =
     member-refusal-requires
     refused-requires
     returns
-    phase-at-requires
     waits-requires
     returns-2)
