@@ -3,7 +3,6 @@ use mathlib.Core.Path.{_≡_, ap}
 use mathlib.Core.List.{List}
 use mathlib.Core.Logic.{_↔_}
 use Prim.Native.Nat.{ℕ, _+_, _^_, _<_}
-use native.Mathlib.Omega.{arith}
 use lib.ListN.{getD}
 use Rattle.sets.specs.Set.{Has, size}
 use Rattle.states.specs.State.{isBlocked}
@@ -12,13 +11,13 @@ use Rattle.hall.specs.Parts.{RowsOf}
 use Rattle.hall.specs.Table.{stateAt}
 use Rattle.hall.specs.Waiting.{ImpedesTask}
 use Rattle.hall.specs.declared.table.Table.{Table}
-use Rattle.density.specs.Density.{IsBlocked, IsAwaited, DensityOf, FewerEvents}
+use Rattle.density.specs.Density.{IsBlocked, IsAwaited, DensityOf}
 use Rattle.density.specs.HowMany.{HowMany}
 use Rattle.density.specs.Parts.{EventsOf, Counts, JoinedBy}
 use Rattle.density.specs.declared.density.Density.{Density}
 use Rattle.density.specs.declared.events.Events.{Events}
 use Rattle.density.proofs.Graphs.{count-events, count-task-edges, Joined, count-event-edges, Impeder, count-task-event-edges}
-use Rattle.density.proofs.Many.{many-along, many-same, many-set}
+use Rattle.density.proofs.Many.{many-along, many-set}
 
 module _ (t : Table) (r : Events) (g : EventsOf t r) where
   blocked-iff : (k : ℕ) → Has (r .blocked) k ↔ IsBlocked t k
@@ -32,12 +31,6 @@ module _ (t : Table) (r : Events) (g : EventsOf t r) where
 
     awaited-are : HowMany (IsAwaited t) events
     awaited-are = count-events t (many-along (g .first) (rw f (many-set 32 (r .first) l)))
-
-    pub fewer-iff : (events < tasks) ↔ FewerEvents t
-    fewer-iff = (
-      λ less. record { tasks = tasks; events = events; blocked = blocked-are; awaited = awaited-are; fewer = less },
-      λ x. let p = many-same blocked-are (x .blocked) in let q = many-same awaited-are (x .awaited) in let z = x .fewer in omega arith,
-    )
 
     -- ---- edges
     module _ (rows : List ℕ) (among : ℕ) (all : among ≡ r .blocked) (x : RowsOf t among rows) where

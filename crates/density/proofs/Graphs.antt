@@ -40,11 +40,14 @@ module _ (t : Table) where
   Waits = BlockedOn t
 
   -- what a task awaits
-  abbrev its : ℕ → Awaited
+  abbrev pub its : ℕ → Awaited
   its k = eventOf (stateAt t k)
 
   its-is : (k : ℕ) (e : Awaited) → Waits k e → its k ≡ e
   its-is k e w = event-is (stateAt t k) e w
+
+  pub waits-its : (k : ℕ) → IsBlocked t k → Waits k (its k)
+  waits-its k w = subst (Waits k) (sym (its-is k (w .0) (w .1))) (w .1)
 
   -- ---- each awaited event has one task that stands for it
   pub first : (k : ℕ) (e : Awaited) → Waits k e → (u : ℕ) × Stands t u × Waits u e
@@ -67,7 +70,7 @@ module _ (t : Table) where
       here = awaits-iff (stateAt t u) e .0 (lowest-holds test 0 32 (let l = lowest k w in omega (arith, blocked-below t k e w)))
 
   stands-at : (k : ℕ) → Stands t k → Waits k (its k)
-  stands-at k z = subst (Waits k) (sym (its-is k (z .event) (z .first .holds))) (z .first .holds)
+  stands-at k z = waits-its k (z .event, z .first .holds)
 
   stands-one : (a b : ℕ) → Stands t a → Stands t b → its a ≡ its b → a ≡ b
   stands-one a b x y e =
@@ -177,7 +180,7 @@ module _ (t : Table) where
       apart q a b = clash refl (ap (λ (z : Node × Node). isTask (z .0)) (a .2 ∙ sym (b .2)))
 
       into : (q : Node × Node) → There q ⊎ Back q → Edge q
-      into q (inl (k, w, e)) = subst Edge e (waits k (its k) (subst (Waits k) (sym (its-is k (w .0) (w .1))) (w .1)))
+      into q (inl (k, w, e)) = subst Edge e (waits k (its k) (waits-its k w))
       into q (inr (p, (z, w, i), e)) =
           subst Edge e
           (impeded (its (p .0)) (p .1) (p .0, stands-at (p .0) z) w (subst (Impedes t (p .1)) (sym (its-is (p .0) (i .event) (i .waits))) (i .impedes)))

@@ -4,4 +4,5 @@ pub mod Tallied
 pub mod Graphs
 pub mod Counted
 pub mod Twins
+pub mod Twice
 pub mod Decided

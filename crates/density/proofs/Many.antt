@@ -1,8 +1,10 @@
--- Laws of how many there are: of none, of two kinds that have nothing in common, of an image, of a set, of pairs row by row; and that it is one number.
+-- Laws of how many there are: of none, of two kinds that have nothing in common, of those taken to fewer, of a part, of an image, of a set, of pairs row by
+-- row; and that it is one number.
 use mathlib.Core.Path.{_≡_, refl, sym, ap, _∙_, subst}
 use mathlib.Core.Bool.{cond}
 use mathlib.Core.Logic.{_↔_, _⊎_, inl, inr}
 use Prim.Native.Nat.{ℕ, zero, suc, _+_, _-_, _^_, _≤_, _<_}
+use native.Mathlib.Nat.{le-antisymm}
 use native.Mathlib.Decide.{decLt, ℕ-discrete}
 use native.Mathlib.Omega.{arith}
 use lib.Dec.{ltb}
@@ -84,42 +86,48 @@ module _ {A : Type 0} where
         all a (inl p) = let i = x .all a p in (i .0, omega arith, low (i .0) (i .1) ∙ i .2)
         all a (inr q) = let i = y .all a q in (m + i .0, omega arith, high (m + i .0) (i .0) refl ∙ i .2)
 
-  -- ---- it is one number: were the one greater, two of its places would be one place of the other
-  module _ {P : A → Type 0} {m n : ℕ} (x : HowMany P m) (y : HowMany P n) where
-    place : (i : ℕ) → Dec (i < m) → ℕ
-    place i (yes l) = y .all (x .nth i) (x .each i l) .0
-    place i (no l) = 0
+-- ---- where each with P is taken to one with Q, and those with Q are fewer, two are taken to the same one
+module _ {A B : Type 0} {P : A → Type 0} {Q : B → Type 0} {m n : ℕ} (f : A → B) (into : (a : A) → P a → Q (f a)) (x : HowMany P m)
+    (y : HowMany Q n) where
+  place : (i : ℕ) → Dec (i < m) → ℕ
+  place i (yes l) = y .all (f (x .nth i)) (into (x .nth i) (x .each i l)) .0
+  place i (no l) = 0
 
-    placed : (i : ℕ) → i < m → (d : Dec (i < m)) → (place i d < n) × (y .nth (place i d) ≡ x .nth i)
-    unfolding place
-    placed i l (yes k) = let j = y .all (x .nth i) (x .each i k) in (j .1, j .2)
-    placed i l (no k) = absurd (k l)
+  placed : (i : ℕ) → i < m → (d : Dec (i < m)) → (place i d < n) × (y .nth (place i d) ≡ f (x .nth i))
+  unfolding place
+  placed i l (yes k) = let j = y .all (f (x .nth i)) (into (x .nth i) (x .each i k)) in (j .1, j .2)
+  placed i l (no k) = absurd (k l)
 
-    not-more : n < m → ⊥
-    not-more l = twice (repeats at n (2 ^ n - 1) (omega (arith, pow-pos n)) (λ k h. full-has n (at k) (there k (omega (arith, full)) .0)))
-      where
-        at : ℕ → ℕ
-        at i = place i (decLt i m)
+  pub many-twice : n < m → (a b : A) × P a × P b × (a ≡ b → ⊥) × (f a ≡ f b)
+  many-twice l = twice (repeats at n (2 ^ n - 1) (omega (arith, pow-pos n)) (λ k h. full-has n (at k) (there k (omega (arith, full)) .0)))
+    where
+      at : ℕ → ℕ
+      at i = place i (decLt i m)
 
-        full : size (2 ^ n - 1) n ≡ n
-        full = size-full n (2 ^ n - 1) (full-has n)
+      full : size (2 ^ n - 1) n ≡ n
+      full = size-full n (2 ^ n - 1) (full-has n)
 
-        there : (i : ℕ) → i ≤ n → (at i < n) × (y .nth (at i) ≡ x .nth i)
-        there i h = placed i (omega arith) (decLt i m)
+      there : (i : ℕ) → i ≤ n → (at i < n) × (y .nth (at i) ≡ f (x .nth i))
+      there i h = placed i (omega arith) (decLt i m)
 
-        twice : (i j : ℕ) × (i < j) × (j ≤ size (2 ^ n - 1) n) × (at i ≡ at j) → ⊥
-        twice (i, j, less, end, e) =
-            let same = sym (there i (omega (arith, full)) .1) ∙ ap (y .nth) e ∙ there j (omega (arith, full)) .1 in
-            let z = x .once i j (omega (arith, full)) (omega (arith, full)) same in
-            omega arith
+      twice : (i j : ℕ) × (i < j) × (j ≤ size (2 ^ n - 1) n) × (at i ≡ at j) → (a b : A) × P a × P b × (a ≡ b → ⊥) × (f a ≡ f b)
+      twice (i, j, less, end, e) =
+          let u : i < m = omega (arith, full) in
+          let v : j < m = omega (arith, full) in
+          let same = sym (there i (omega (arith, full)) .1) ∙ ap (y .nth) e ∙ there j (omega (arith, full)) .1 in
+          (x .nth i, x .nth j, x .each i u, x .each j v, λ q. let z = x .once i j u v q in omega arith, same)
+
+-- so a part is no more than the whole, and how many there are is one number
+module _ {A : Type 0} where
+  pub many-le : {P Q : A → Type 0} {m n : ℕ} → ((a : A) → P a → Q a) → HowMany P m → HowMany Q n → m ≤ n
+  many-le {P} {Q} {m} {n} into x y = go (decLt n m)
+    where
+      go : Dec (n < m) → m ≤ n
+      go (yes l) = let z = many-twice (λ a. a) into x y l in absurd (z .4 (z .5))
+      go (no l) = omega arith
 
   pub many-same : {P : A → Type 0} {m n : ℕ} → HowMany P m → HowMany P n → m ≡ n
-  many-same {P} {m} {n} x y = go (decLt n m) (decLt m n)
-    where
-      go : Dec (n < m) → Dec (m < n) → m ≡ n
-      go (yes l) d = absurd (not-more x y l)
-      go (no l) (yes k) = absurd (not-more y x k)
-      go (no l) (no k) = omega arith
+  many-same x y = le-antisymm (many-le (λ a p. p) x y) (many-le (λ a p. p) y x)
 
 -- ---- the image of those with P
 pub many-image : {A B : Type 0} {P : A → Type 0} {n : ℕ} (f : A → B) → ((a b : A) → P a → P b → f a ≡ f b → a ≡ b) → HowMany P n

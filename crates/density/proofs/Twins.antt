@@ -202,11 +202,14 @@ module _ (t : Table) where
   )
 
   -- ---- the twin has the five counts
+  pub count-stands : HowMany (Stands t) (countOf standsAt)
+  count-stands = count-many standsAt (Stands t) stands-below stands-iff
+
   pub densityIn-counts : DensityOf t densityIn
   unfolding densityIn
   densityIn-counts = record {
     blocked = blocked;
-    events = count-events t (count-many standsAt (Stands t) stands-below stands-iff);
+    events = count-events t count-stands;
     task-edges =
         count-task-edges t
         (pairs-many impedesAt (λ k u. IsBlocked t u × ImpedesTask t k u) (λ k u x. (is-below k (x .1 .event, x .1 .waits), is-below u (x .0))) impedes-iff);

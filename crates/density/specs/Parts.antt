@@ -1,4 +1,5 @@
 -- What the parts of the code hand each other; nobody need believe this file.
+use mathlib.Core.Path.{_≡_}
 use mathlib.Core.List.{List}
 use mathlib.Core.Logic.{_↔_}
 use Prim.Native.Nat.{ℕ, _≤_}
@@ -16,6 +17,15 @@ pub record Alike (t : Table) (k u : ℕ) : Type 0 where
   pub event : Awaited
   pub one : BlockedOn t k event
   pub other : BlockedOn t u event
+
+-- two of some tasks await the same event
+pub record AwaitedTwice (t : Table) (among : ℕ) : Type 0 where
+  pub one : ℕ
+  pub other : ℕ
+  pub inside : Has among one
+  pub inside-too : Has among other
+  pub apart : one ≡ other → ⊥
+  pub alike : Alike t one other
 
 -- k is the lowest who awaits its event, and stands for it
 pub record Stands (t : Table) (k : ℕ) : Type 0 where

@@ -19,7 +19,7 @@ pub fn density_of(table: Table) -> Density
     let events = events_of(table);
     let among = events.blocked;
     let first = events.first;
-    let impeders = table.edges(among);
+    let impeders = table.edges(table.seats(among));
     let blocked = sets::size(among) as u64;
     let awaited = sets::size(first) as u64;
     let task_edges = edges_from(among, impeders);

@@ -1,11 +1,11 @@
 use hall::table::Table;
+use states::state::Task;
 use states::waiting::awaits;
 use states::waiting::event_of;
 ghost use mathlib.Core.Path.{_≡_};
 ghost use mathlib.Core.Bool.{true};
 ghost use mathlib.Core.Logic.{_↔_};
-ghost use Rattle.density.specs.Density.{FewerEvents};
-ghost use Rattle.density.specs.Parts.{EventsOf};
+ghost use Rattle.density.specs.Parts.{AwaitedTwice, EventsOf};
 
 // The blocked tasks; of these the lowest who awaits an event, which stands for it; and in its row all who await that event.
 pub struct Events {
@@ -44,10 +44,26 @@ pub(crate) fn events_of(table: Table) -> Events
     }
 }
 
-// Whether the awaited events are fewer than the blocked tasks.
-pub fn fewer_events(table: Table) -> bool
-    ensures { λ r. ⌜ ((r ≡ true) ↔ FewerEvents table) ⌝ }
+// Whether two of some tasks await the same event. It takes the states and not the table, since by value a table is copied whole.
+pub fn awaited_twice(tasks: [Task; 32], among: u32) -> bool
+    ensures { λ r. ⌜ ((t : Table) → t .tasks ≡ tasks → (r ≡ true) ↔ AwaitedTwice t among) ⌝ }
 {
-    let events = events_of(table);
-    sets::size(events.first) < sets::size(events.blocked)
+    let mut todo = among;
+    while todo != 0 {
+        let t = sets::lowest(todo);
+        let task = tasks[t];
+        let event = event_of(task);
+        todo = sets::rest(todo);
+        let mut unseen = todo;
+        while unseen != 0 {
+            let u = sets::lowest(unseen);
+            let other = tasks[u];
+            // Both are asked: who awaits nothing is given an event of no phaser, which another may await where the table is not sound.
+            if awaits(task, event) & awaits(other, event) {
+                return true;
+            }
+            unseen = sets::rest(unseen);
+        }
+    }
+    false
 }

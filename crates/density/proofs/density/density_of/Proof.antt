@@ -2,12 +2,16 @@
 use Prim.Native.Nat.{_^_, _<_}
 use native.Mathlib.Omega.{arith}
 use borrow.Author.Needs.{needs}
+use Rattle.hall.proofs.Filling.{seated-rows}
 use Rattle.density.proofs.Counted.{density-counted}
 use Rattle.density.proofs.density.density_of.Statement.{statement}
 use Rattle.density.proofs.density.density_of.Tie as tie
 
 events-of-requires : tie.Need-events-of-requires
 events-of-requires c κs = search needs
+
+seats-requires : tie.Need-seats-requires
+seats-requires c κs = search needs
 
 edges-requires : tie.Need-edges-requires
 edges-requires c κs = search needs
@@ -40,11 +44,12 @@ returns : tie.Need-returns
 returns c =
     let sizes = c .before .before .before in
     let rows = sizes .before .before in
-    let events = rows .before .events-of in
+    let seats = rows .before .seats in
+    let events = rows .before .before .events-of in
     let blocked : events .result .blocked < 2 ^ 32 = search needs in
     let first : events .result .first < 2 ^ 32 = search needs in
     density-counted _ (events .result) (events .ensures) _ _ (sizes .before .size .ensures) (sizes .size2 .ensures) blocked first _
-    _ (omega arith) (rows .edges .ensures) _ (omega arith) (omega arith) (c .before .before .edges-from .ensures) (c .before .event-edges .ensures) _ _
+    _ (omega (arith, seats .ensures .0)) (seated-rows _ _ (seats .ensures .1) _ (rows .edges .ensures)) _ (omega arith) (omega arith) (c .before .before .edges-from .ensures) (c .before .event-edges .ensures) _ _
     (c .edges-from2 .ensures) (omega arith) (omega arith)
 
 pub density-of-spec : {M : Type 1} → statement M
@@ -52,6 +57,7 @@ density-of-spec =
     tie.close
     (tie.spec
     events-of-requires
+    seats-requires
     edges-requires
     size-requires
     cast-blocked
