@@ -15,3 +15,4 @@ pub mod Bytes
 pub mod Theorems
 pub mod Examples
 mod Wiped
+mod Marks

@@ -1,5 +1,6 @@
 // The reader of a hall sheet. Head and entry are small values; only `entries` holds the table.
 ghost use mathlib.Core.Path.{_≡_};
+ghost use Rattle.hall.specs.Parts.{BlockedSet};
 ghost use Rattle.sheet.specs.Got.{onward};
 ghost use Rattle.sheet.specs.Parts.{placed};
 ghost use Rattle.sheet.specs.Reader.{noTasks, entriesAt, hands, handed, sheetAt};
@@ -31,9 +32,11 @@ fn no_tasks(opened: [bool; 16]) -> Table
 }
 
 // The tasks, and the end. There is one table, and a fault wipes it where it stands: a second one, or a struct around it, would cost a copy of
-// 3 kB, which is more than a small sheet takes to read.
-fn entries(sheet: &[u8], read: ReadHead, answer: &mut u32) -> Table
-    ensures { λ r. ⌜ hands (now (answer .exit)) r ≡ handed (onward (placed (read .place) (read .head)) (entriesAt (now (sheet .entry)))) ⌝ }
+// 3 kB, which is more than a small sheet takes to read. Who is blocked is marked on the way, and a mark is taken again where the task is written
+// free: so the marks are the table's after a refusal too.
+fn entries(sheet: &[u8], read: ReadHead, answer: &mut u32, blocked: &mut u32) -> Table
+    ensures read { λ r. ⌜ hands (now (answer .exit)) r ≡ handed (onward (placed (read .place) (read .head)) (entriesAt (now (sheet .entry)))) ⌝ }
+    ensures blocked { λ r. ⌜ BlockedSet r (now (blocked .exit)) ⌝ }
 {
     let head = read.head;
     let opened = head.opened;
@@ -41,12 +44,14 @@ fn entries(sheet: &[u8], read: ReadHead, answer: &mut u32) -> Table
     let mut place = read.place;
     let mut floor: u64 = 0;
     let mut left = remaining(place, head.count);
+    let mut waiting: u32 = 0;
     while 0 < left {
         let read = entry_at(sheet, &opened, floor, next(place));
         let entry = read.entry;
         let number = entry.number.0;
         let k = number as usize;
         let state = entry.state;
+        waiting = sets::marked(waiting, k, state.is_blocked());
         table.tasks[k] = Task { state };
         place = read.place;
         let mut least: u64 = 0;
@@ -69,9 +74,11 @@ fn entries(sheet: &[u8], read: ReadHead, answer: &mut u32) -> Table
     let end = ended(sheet, place);
     let Place::Refused(fault) = end else {
         *answer = 0;
+        *blocked = waiting;
         return table;
     };
     *answer = fault;
+    *blocked = 0;
     table.opened = [false; 16];
     table.phases = [Phase(0); 512];
     table.members = [false; 512];
@@ -83,9 +90,18 @@ fn entries(sheet: &[u8], read: ReadHead, answer: &mut u32) -> Table
     table
 }
 
+// The table of a sheet, its blocked tasks, and 0 for `answer`; or a fresh table, nobody, and the refusal.
+pub fn read_with_blocked(sheet: &[u8], answer: &mut u32, blocked: &mut u32) -> Table
+    ensures read { λ r. ⌜ hands (now (answer .exit)) r ≡ sheetAt (now (sheet .entry)) ⌝ }
+    ensures blocked { λ r. ⌜ BlockedSet r (now (blocked .exit)) ⌝ }
+{
+    entries(sheet, head_at(sheet), answer, blocked)
+}
+
 // The table of a sheet, and 0 for `answer`; or a fresh table, and the refusal.
 pub fn read(sheet: &[u8], answer: &mut u32) -> Table
     ensures { λ r. ⌜ hands (now (answer .exit)) r ≡ sheetAt (now (sheet .entry)) ⌝ }
 {
-    entries(sheet, head_at(sheet), answer)
+    let mut blocked: u32 = 0;
+    read_with_blocked(sheet, answer, &mut blocked)
 }

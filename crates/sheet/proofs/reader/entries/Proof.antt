@@ -1,14 +1,16 @@
--- From the place on, the tasks that are left give what all of them give, and no task from the floor on is live yet; within a task, its memberships that are
--- left give what all of them give. After a fault the tasks are freed one by one from the floor down.
+-- From the place on, the tasks that are left give what all of them give, no task from the floor on is live yet, and the blocked ones are marked; within a
+-- task, its memberships that are left give what all of them give. After a fault the tasks are freed one by one from the floor down.
 use borrow.Author.Needs.{needs}
 use native.Mathlib.Omega.{arith}
 use mathlib.Core.Path.{_≡_, refl, sym, ap, _∙_}
 use Prim.Native.Nat.{_+_, _-_, _≤_}
 use Rattle.hall.specs.Effects.{withState, withEntry}
+use Rattle.hall.specs.Parts.{BlockedSet}
 use Rattle.sheet.specs.Parts.{placed, nextOf, remainingOf, risenOf}
 use Rattle.sheet.specs.Got.{onward, rising}
 use Rattle.sheet.specs.Reader.{memberStep, taskStep, noTasks, entriesAt, hands, handed}
 use Rattle.sheet.specs.declared.place.Place.{Place}
+use Rattle.sheet.proofs.Marks.{nobody-blocked, mark-one}
 use Rattle.sheet.proofs.Onward.{gone, gone-start, gone-turn, gone-end, remaining-settled, remaining-less}
 use Rattle.sheet.proofs.Steps.{member-made, task-made, entries-made}
 use Rattle.sheet.proofs.Wiped.{FreeFrom, free-start, free-risen, Wiped, wipe-one, wiped-fresh}
@@ -16,28 +18,28 @@ use Rattle.sheet.proofs.reader.entries.Statement.{statement}
 use Rattle.sheet.proofs.reader.entries.Tie as tie
 
 abbrev Inv-loop2 : tie.InvT-loop2
-Inv-loop2 sheet answer opened table₀ place₀ floor left number k least₀ members₀ table place least members =
+Inv-loop2 sheet answer blocked opened table₀ place₀ floor left waiting number k least₀ members₀ table place least members =
     (gone (memberStep sheet opened k) place members least table ≡ gone (memberStep sheet opened k) place₀ members₀ 0 table₀)
     × (members ≡ remainingOf place members) × (table .tasks ≡ table₀ .tasks)
 
 abbrev μ-loop2 : tie.MeasureT-loop2
-μ-loop2 sheet answer opened table₀ place₀ floor left number k least₀ members₀ table place least members = members
+μ-loop2 sheet answer blocked opened table₀ place₀ floor left waiting number k least₀ members₀ table place least members = members
 
 abbrev Inv-loop : tie.InvT-loop
-Inv-loop sheet answer opened table₀ place₀ floor₀ left₀ table place floor left =
+Inv-loop sheet answer blocked opened table₀ place₀ floor₀ left₀ waiting₀ table place floor left waiting =
     (gone (taskStep sheet opened) place left floor table ≡ gone (taskStep sheet opened) place₀ left₀ 0 (noTasks opened))
-    × (left ≡ remainingOf place left) × FreeFrom floor (table .tasks)
+    × (left ≡ remainingOf place left) × FreeFrom floor (table .tasks) × BlockedSet table waiting
 
 abbrev μ-loop : tie.MeasureT-loop
-μ-loop sheet answer opened table₀ place₀ floor₀ left₀ table place floor left = left
+μ-loop sheet answer blocked opened table₀ place₀ floor₀ left₀ waiting₀ table place floor left waiting = left
 
 abbrev Inv-loop3 : tie.InvT-loop3
-Inv-loop3 sheet answer table₀ floor₀ left fault table floor = Wiped floor table
+Inv-loop3 sheet answer blocked table₀ floor₀ left waiting fault table floor = Wiped floor table
 
 abbrev μ-loop3 : tie.MeasureT-loop3
-μ-loop3 sheet answer table₀ floor₀ left fault table floor = floor
+μ-loop3 sheet answer blocked table₀ floor₀ left waiting fault table floor = floor
 
--- ---- from within a task's memberships back: the membership that was read, its turn, the entry that was read, its turn, the start
+-- ---- from within a task's memberships back: the membership that was read, its turn, the mark that was made, the entry that was read, its turn, the start
 abbrev joined : tie.After-phase Inv-loop2 μ-loop2 Inv-loop μ-loop Inv-loop3 μ-loop3
     → tie.After-membership-at Inv-loop2 μ-loop2 Inv-loop μ-loop Inv-loop3 μ-loop3
 joined c = c .before .before
@@ -46,9 +48,13 @@ abbrev member-turn : tie.After-membership-at Inv-loop2 μ-loop2 Inv-loop μ-loop
     → tie.In-loop2 Inv-loop2 μ-loop2 Inv-loop μ-loop Inv-loop3 μ-loop3
 member-turn c = c .before .before .before
 
+abbrev marking : tie.At-loop2 Inv-loop2 μ-loop2 Inv-loop μ-loop Inv-loop3 μ-loop3
+    → tie.After-marked Inv-loop2 μ-loop2 Inv-loop μ-loop Inv-loop3 μ-loop3
+marking c = c .before .before
+
 abbrev entered : tie.At-loop2 Inv-loop2 μ-loop2 Inv-loop μ-loop Inv-loop3 μ-loop3
     → tie.After-entry-at Inv-loop2 μ-loop2 Inv-loop μ-loop Inv-loop3 μ-loop3
-entered c = c .before .before .before
+entered c = marking c .before .before .before
 
 abbrev task-turn : tie.After-entry-at Inv-loop2 μ-loop2 Inv-loop μ-loop Inv-loop3 μ-loop3
     → tie.In-loop Inv-loop2 μ-loop2 Inv-loop μ-loop Inv-loop3 μ-loop3
@@ -69,6 +75,7 @@ loop-holds c =
       rw (c .before .no-tasks .ensures),
       remaining-settled (read .place) _ (read .head .count) (c .remaining .ensures),
       rw (c .before .no-tasks .ensures) free-start,
+      nobody-blocked 0 _ refl (rw (c .before .no-tasks .ensures) free-start),
     )
 
 next-requires : tie.Need-next-requires Inv-loop2 μ-loop2 Inv-loop μ-loop Inv-loop3 μ-loop3
@@ -77,18 +84,24 @@ next-requires c κs = search needs
 entry-at-requires : tie.Need-entry-at-requires Inv-loop2 μ-loop2 Inv-loop μ-loop Inv-loop3 μ-loop3
 entry-at-requires c κs = search needs
 
-mul-t29 : tie.Need-mul-t29 Inv-loop2 μ-loop2 Inv-loop μ-loop Inv-loop3 μ-loop3
-mul-t29 c = record { fits = omega (arith, c .before .entry-at .ensures .1) }
+is-blocked-requires : tie.Need-is-blocked-requires Inv-loop2 μ-loop2 Inv-loop μ-loop Inv-loop3 μ-loop3
+is-blocked-requires c κs = tt
+
+marked-requires : tie.Need-marked-requires Inv-loop2 μ-loop2 Inv-loop μ-loop Inv-loop3 μ-loop3
+marked-requires c κs = tt
+
+mul-t31 : tie.Need-mul-t31 Inv-loop2 μ-loop2 Inv-loop μ-loop Inv-loop3 μ-loop3
+mul-t31 c = record { fits = omega (arith, c .before .before .before .entry-at .ensures .1) }
 
 element-set-from-table : tie.Need-element-set-from-table Inv-loop2 μ-loop2 Inv-loop μ-loop Inv-loop3 μ-loop3
-element-set-from-table c = omega (arith, c .before .entry-at .ensures .1)
+element-set-from-table c = omega (arith, c .before .before .before .entry-at .ensures .1)
 
 remaining-requires-2 : tie.Need-remaining-requires-2 Inv-loop2 μ-loop2 Inv-loop μ-loop Inv-loop3 μ-loop3
 remaining-requires-2 c κs = search needs
 
 loop2-holds : tie.Need-loop2-holds Inv-loop2 μ-loop2 Inv-loop μ-loop Inv-loop3 μ-loop3
 loop2-holds c =
-    let entry = c .before .before .entry-at .result in
+    let entry = c .before .before .before .before .entry-at .result in
     (refl, remaining-settled (entry .place) _ (entry .entry .count) (c .remaining2 .ensures), refl)
 
 next-requires-2 : tie.Need-next-requires-2 Inv-loop2 μ-loop2 Inv-loop μ-loop Inv-loop3 μ-loop3
@@ -191,6 +204,8 @@ task-read c =
 
 loop-again : tie.Need-loop-again Inv-loop2 μ-loop2 Inv-loop μ-loop Inv-loop3 μ-loop3
 loop-again c =
+    let mark = marking (c .before .before .before) in
+    let told = mark .before .is-blocked .ensures in
     let read = entered (c .before .before .before) in
     let t = task-turn read in
     let loop = t .before .loop in
@@ -203,6 +218,8 @@ loop-again c =
       rw (c .remaining4 .ensures) turned ∙ loop .inv .0,
       remaining-settled place _ (loop .left - 1) (c .remaining4 .ensures),
       rw (c .before .risen .ensures, c .before .before .before .loop2 .inv .2) free,
+      mark-one (loop .table) _ number _ (omega (arith, read .entry-at .ensures .1)) (loop .inv .2 .long) (c .before .before .before .loop2 .inv .2)
+          _ _ _ _ (omega arith) (λ e. rw (told ∙ e) refl) (λ e. rw (told ∙ e) refl) (mark .marked .ensures) (loop .inv .3),
     )
 
 ended-requires : tie.Need-ended-requires Inv-loop2 μ-loop2 Inv-loop μ-loop Inv-loop3 μ-loop3
@@ -228,7 +245,7 @@ all-read c e =
     (entries-made _ (read .head) (read .place) (loop .place) _ (loop .left) (loop .floor) (loop .table) remaining none (loop .inv .0))
 
 returns : tie.Need-returns Inv-loop2 μ-loop2 Inv-loop μ-loop Inv-loop3 μ-loop3
-returns c = ap handed (all-read (c .before .before) (c .enum-told .given .1))
+returns c = (ap handed (all-read (c .before .before) (c .enum-told .given .1)), c .before .before .before .before .loop .inv .3)
 
 -- the fault that was found at the end
 abbrev fault : tie.After-table3 Inv-loop2 μ-loop2 Inv-loop μ-loop Inv-loop3 μ-loop3 → tie.After-end Inv-loop2 μ-loop2 Inv-loop μ-loop Inv-loop3 μ-loop3
@@ -240,8 +257,8 @@ loop3-holds c = record { opened = refl; phases = refl; members = refl; tasks = f
 sub-floor : tie.Need-sub-floor Inv-loop2 μ-loop2 Inv-loop μ-loop Inv-loop3 μ-loop3
 sub-floor c = search needs
 
-mul-t47 : tie.Need-mul-t47 Inv-loop2 μ-loop2 Inv-loop μ-loop Inv-loop3 μ-loop3
-mul-t47 c = record { fits = omega (arith, c .before .loop3 .inv .tasks .high) }
+mul-t49 : tie.Need-mul-t49 Inv-loop2 μ-loop2 Inv-loop μ-loop Inv-loop3 μ-loop3
+mul-t49 c = record { fits = omega (arith, c .before .loop3 .inv .tasks .high) }
 
 element-set-from-table-2 : tie.Need-element-set-from-table-2 Inv-loop2 μ-loop2 Inv-loop μ-loop Inv-loop3 μ-loop3
 element-set-from-table-2 c = omega (arith, c .before .loop3 .inv .tasks .high, c .before .loop3 .inv .tasks .long)
@@ -255,8 +272,11 @@ loop3-again c = wipe-one _ _ (omega (arith, c .loop3-test .taken)) (c .before .l
 returns-2 : tie.Need-returns-2 Inv-loop2 μ-loop2 Inv-loop μ-loop Inv-loop3 μ-loop3
 returns-2 c =
     let found = fault (c .before .before) in
-    let fresh = wiped-fresh _ _ (omega (arith, c .loop3-test .left)) (c .before .loop3 .inv) in
-    ap (hands _) fresh ∙ ap handed (all-read (found .before .before) (found .end .given .1))
+    let none : c .before .loop3 .floor ≡ 0 = omega (arith, c .loop3-test .left) in
+    let fresh = wiped-fresh _ _ none (c .before .loop3 .inv) in (
+      ap (hands _) fresh ∙ ap handed (all-read (found .before .before) (found .end .given .1)),
+      nobody-blocked _ (c .before .loop3 .table) none (c .before .loop3 .inv .tasks),
+    )
 
 pub entries-spec : {M : Type 1} → statement M
 entries-spec =
@@ -273,7 +293,9 @@ entries-spec =
     loop-holds
     next-requires
     entry-at-requires
-    mul-t29
+    is-blocked-requires
+    marked-requires
+    mul-t31
     element-set-from-table
     remaining-requires-2
     loop2-holds
@@ -300,7 +322,7 @@ entries-spec =
     returns
     loop3-holds
     sub-floor
-    mul-t47
+    mul-t49
     element-set-from-table-2
     loop3-less
     loop3-again

@@ -1,21 +1,11 @@
-use borrow.Author.Needs.{needs}
-use mathlib.Core.Path.{ap, _∙_}
-use Rattle.sheet.specs.Got.{onward}
-use Rattle.sheet.specs.Reader.{sheetAt, tableAt, entriesAt, handed}
 use Rattle.sheet.proofs.reader.read.Statement.{statement}
 use Rattle.sheet.proofs.reader.read.Tie as tie
 
-head-at-requires : tie.Need-head-at-requires
-head-at-requires c κs = search needs
-
-entries-requires : tie.Need-entries-requires
-entries-requires c κs = search needs
+read-with-blocked-requires : tie.Need-read-with-blocked-requires
+read-with-blocked-requires c κs = tt
 
 returns : tie.Need-returns
-unfolding sheetAt tableAt
-returns c =
-    let head = c .before .before in
-    c .entries .ensures ∙ ap (λ g. handed (onward g (entriesAt (head .before .before .args .sheet .now)))) (head .head-at .ensures)
+returns c = c .read-with-blocked .ensures .0
 
 pub read-spec : {M : Type 1} → statement M
-read-spec = tie.close (tie.spec head-at-requires entries-requires returns)
+read-spec = tie.close (tie.spec read-with-blocked-requires returns)
