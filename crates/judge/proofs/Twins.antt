@@ -10,7 +10,7 @@ use lib.Dec.{ltb}
 use lib.ListN.{getD, length, replicate}
 use borrow.Author.Tests.{lt-ltb, le-ltb}
 use Rattle.sets.specs.Set.{Has}
-use Rattle.sets.proofs.Members.{none-has}
+use Rattle.sets.proofs.Members.{has-lt, none-has, full-has}
 use Rattle.sets.proofs.Least.{least-along}
 use Rattle.sets.proofs.Masks.{maskOf, mask-has}
 use Rattle.sets.proofs.Widths.{members-fit}
@@ -36,7 +36,11 @@ use Rattle.judge.specs.Routes.{largestRoute, TaskRoute}
 use Rattle.judge.specs.Verdict.{nobody as nobodyOf, verdictOf, Judged}
 use Rattle.judge.specs.declared.verdict.Verdict.{Verdict}
 use Rattle.judge.proofs.Named.{found-by}
-use Rattle.judge.proofs.Tasks.{Edges, route-named}
+use Rattle.judge.proofs.Tasks.{Edges, rows-named}
+
+-- all 32: who awaits nothing has no edge, so it is no matter that not only the blocked are looked at
+abbrev everybody : ℕ
+everybody = 2 ^ 32 - 1
 
 -- ---- the edges of the task route, as rows
 abbrev edgeOf : Table → ℕ → ℕ → Bool
@@ -50,33 +54,34 @@ module _ (t : Table) where
   unfolding rowsOf
   row-at k l = getD-places (λ k. maskOf (edgeOf t k) 32) 0 32 k l ∙ ap (λ k. maskOf (edgeOf t k) 32) (zero-add k)
 
-  row-iff : Edges t (rowsOf t)
+  row-iff : Edges t everybody (rowsOf t)
   row-iff k u = (into, from)
     where
-      into : Row (rowsOf t) k u → (isBlocked (stateAt t u) ≡ true) × ImpedesTask t k u
+      into : Row everybody (rowsOf t) k u → (isBlocked (stateAt t u) ≡ true) × ImpedesTask t k u
       into r =
-          let h = mask-has (edgeOf t k) 32 u (omega arith) .0 (rw (row-at k (r .0)) at (r .1)) in
+          let l = has-lt 32 everybody k (omega arith) (r .0) in
+          let h = mask-has (edgeOf t k) 32 u (omega arith) .0 (rw (row-at k l) at (r .1)) in
           let b = isBlocked (stateAt t u) in
           let i = impedesOf t u (eventOf (stateAt t k)) in
           (and-left b i (h .1), impedes-task t k u .0 (and-right b i (h .1)))
 
-      from : (isBlocked (stateAt t u) ≡ true) × ImpedesTask t k u → Row (rowsOf t) k u
+      from : (isBlocked (stateAt t u) ≡ true) × ImpedesTask t k u → Row everybody (rowsOf t) k u
       from h =
           let b = is-blocked (stateAt t u) (h .0) in
           let l = blocked-below t k (h .1 .event) (h .1 .waits) in
           let e : edgeOf t k u ≡ true = rw (h .0, impedes-task t k u .1 (h .1)) refl in
-          (l, rw (row-at k l) (mask-has (edgeOf t k) 32 u (omega arith) .1 (blocked-below t u (b .0) (b .1), e)))
+          (full-has 32 k l, rw (row-at k l) (mask-has (edgeOf t k) 32 u (omega arith) .1 (blocked-below t u (b .0) (b .1), e)))
 
 -- ---- the named set
 unfoldable pub namedIn : Table → ℕ
-namedIn t = namedOf (rowsOf t)
+namedIn t = namedOf (rowsOf t) everybody
 
-named-by : (t : Table) → NamedBy (Row (rowsOf t)) (namedIn t)
+named-by : (t : Table) → NamedBy (Row everybody (rowsOf t)) (namedIn t)
 unfolding namedIn
-named-by t = namedOf-named (rowsOf t)
+named-by t = namedOf-named (rowsOf t) everybody (omega arith)
 
 pub named-in : (t : Table) → TaskRoute t (namedIn t)
-named-in t = route-named t (rowsOf t) (row-iff t) (namedIn t) (named-by t)
+named-in t = rows-named t everybody (rowsOf t) (row-iff t) (namedIn t) (named-by t)
 
 pub named-fits : (t : Table) → namedIn t < 2 ^ 32
 named-fits t = members-fit 32 (namedIn t) (λ k h. let e = first (named-in t .iff k .0 h) in blocked-below t k (e .event) (e .waits))
@@ -87,12 +92,14 @@ ringIn t = ringOf (nextsOf (rowsOf t) (namedIn t)) (namedIn t)
 
 pub ring-in : (t : Table) → 0 < namedIn t → Ring (Has (namedIn t)) (ImpedesTask t) (ringIn t)
 unfolding ringIn
-ring-in t p = ring-moves (Has (namedIn t)) (Row (rowsOf t)) (ImpedesTask t) steps (ringIn t) (rows-ring (rowsOf t) (namedIn t) (named-fits t) (named-by t) p)
+ring-in t p =
+    ring-moves (Has (namedIn t)) (Row everybody (rowsOf t)) (ImpedesTask t) steps (ringIn t)
+    (rows-ring everybody (rowsOf t) (namedIn t) (named-fits t) (named-by t) p)
   where
     blocked : (u : ℕ) → Has (namedIn t) u → isBlocked (stateAt t u) ≡ true
     blocked u h = let e = first (named-in t .iff u .0 h) in ap isBlocked (e .waits)
 
-    steps : (k u : ℕ) → Has (namedIn t) k → Step (Has (namedIn t)) (Row (rowsOf t)) k u → Step (Has (namedIn t)) (ImpedesTask t) k u
+    steps : (k u : ℕ) → Has (namedIn t) k → Step (Has (namedIn t)) (Row everybody (rowsOf t)) k u → Step (Has (namedIn t)) (ImpedesTask t) k u
     steps k u h = least-along (λ v q. (q .0, row-iff t k v .0 (q .1) .1)) (λ v q. (q .0, row-iff t k v .1 (blocked v (q .0), q .1)))
 
 -- ---- the verdict

@@ -1,3 +1,4 @@
 pub mod Routes
 pub mod Verdict
 pub mod Parts
+pub mod OfSheet

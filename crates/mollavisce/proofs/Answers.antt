@@ -14,7 +14,8 @@ use Rattle.sheet.specs.Reader.{sheetAt}
 use Rattle.sheet.proofs.Numbers.{Bytes}
 use Rattle.sheet.proofs.Theorems.{accepts, answers}
 use Rattle.judge.specs.Routes.{largestRoute}
-use Rattle.mollavisce.specs.Entry.{VerdictOf, Entered, entryAnswers}
+use Rattle.mollavisce.specs.Entry.{Entered, entryAnswers}
+use Rattle.judge.specs.OfSheet.{VerdictOf}
 use Rattle.mollavisce.proofs.Entered.{Way, no-route, short, reached, way}
 
 module _ (sheet : List ℕ) (bytes : Bytes sheet) (route : ℕ) where

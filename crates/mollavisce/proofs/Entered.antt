@@ -9,7 +9,8 @@ use borrow.Author.Tests.{ne-eqb}
 use Rattle.answers.specs.Answers.{done, noRoute, shortStrip}
 use Rattle.judge.specs.declared.verdict.Verdict.{Verdict}
 use Rattle.judge.specs.Routes.{largestRoute}
-use Rattle.mollavisce.specs.Entry.{VerdictOf, Entered}
+use Rattle.mollavisce.specs.Entry.{Entered}
+use Rattle.judge.specs.OfSheet.{VerdictOf}
 use Rattle.mollavisce.specs.Strip.{stripAfter}
 
 module _ (sheet : List ℕ) (route : ℕ) (before after : List ℕ) (answer : ℕ) where

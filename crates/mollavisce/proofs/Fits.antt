@@ -18,7 +18,7 @@ use Rattle.judge.specs.declared.verdict.Verdict.{Verdict}
 use Rattle.judge.proofs.Answers.{Holds, judged-holds, answer-0}
 use Rattle.judge.specs.Routes.{largestRoute}
 use Rattle.sets.proofs.Widths.{members-fit}
-use Rattle.mollavisce.specs.Entry.{VerdictOf}
+use Rattle.judge.specs.OfSheet.{VerdictOf}
 use Rattle.sheet.specs.Reader.{sheetAt}
 
 -- the mask is of 32 tasks, count and ring length are bytes, the ring has 32 places

@@ -9,7 +9,8 @@ use Rattle.answers.specs.Answers.{done}
 use Rattle.judge.specs.declared.verdict.Verdict.{Verdict}
 use Rattle.judge.proofs.One.{judged-one}
 use Rattle.judge.specs.Routes.{largestRoute}
-use Rattle.mollavisce.specs.Entry.{VerdictOf, Entered}
+use Rattle.mollavisce.specs.Entry.{Entered}
+use Rattle.judge.specs.OfSheet.{VerdictOf}
 use Rattle.sheet.specs.Reader.{sheetAt}
 use Rattle.mollavisce.specs.Strip.{stripAfter}
 

@@ -9,7 +9,8 @@ use lib.Seq.{take-at}
 use borrow.Author.Tests.{eq-eqb}
 use Rattle.answers.specs.Answers.{done}
 use Rattle.judge.specs.declared.verdict.Verdict.{Verdict}
-use Rattle.mollavisce.specs.Entry.{VerdictOf, Entered}
+use Rattle.mollavisce.specs.Entry.{Entered}
+use Rattle.judge.specs.OfSheet.{VerdictOf}
 use Rattle.mollavisce.specs.Strip.{stripOf, stripAfter, verdictIn}
 use Rattle.mollavisce.proofs.Entered.{done-reached}
 use Rattle.mollavisce.proofs.Fits.{sheet-fits}

@@ -2,24 +2,15 @@
 use answers::NO_ROUTE;
 use answers::SHORT_STRIP;
 use judge::judge::LARGEST_ROUTE;
-use judge::judge::judge;
 use judge::verdict::Verdict;
-use sheet::reader::read;
-ghost use Rattle.mollavisce.specs.Entry.{VerdictOf, Entered};
+ghost use Rattle.mollavisce.specs.Entry.{Entered};
+ghost use Rattle.judge.specs.OfSheet.{VerdictOf};
 
 // What the judge says of the table that a sheet holds.
 pub fn verdict_of(bytes: &[u8], route: u64) -> Verdict
     ensures { λ r. ⌜ VerdictOf (now (bytes .entry)) route r ⌝ }
 {
-    if route > LARGEST_ROUTE {
-        return Verdict::nobody(NO_ROUTE);
-    }
-    let mut refusal: u32 = 0;
-    let table = read(bytes, &mut refusal);
-    if refusal != 0 {
-        return Verdict::nobody(refusal);
-    }
-    judge(table, route)
+    judge::of_sheet::verdict_of(bytes, route)
 }
 
 // One lent slice is read as the sheet, the other is written with 38 bytes where the answer is 0, and else with none.

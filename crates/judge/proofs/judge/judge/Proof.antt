@@ -1,4 +1,4 @@
--- The three tests in their order, then what the route and the ring promise.
+-- The three tests in their order, then what is found.
 use mathlib.Core.Bool.{true, false}
 use mathlib.Core.Path.{_≡_, refl, sym, _∙_}
 use native.Mathlib.Omega.{arith}
@@ -33,31 +33,18 @@ returns-2 c = record {
   found = λ l s. absurd (clash s (told-unsound (c .before)));
 }
 
-named-by-requires : tie.Need-named-by-requires
-named-by-requires c κs = tt
+blocked-requires : tie.Need-blocked-requires
+blocked-requires c κs = tt
 
-ring-of-requires : tie.Need-ring-of-requires
-ring-of-requires c κs = tt
-
-verdict-requires : tie.Need-verdict-requires
-verdict-requires c κs = tt
+found-requires : tie.Need-found-requires
+found-requires c κs = (c .blocked .ensures, omega arith)
 
 returns-3 : tie.Need-returns-3
-returns-3 c =
-    let by = c .before .before .named-by in
-    record {
-      no-route = λ l. absurd (omega arith);
-      unsound = λ l s. absurd (clash (told-sound (c .before .before .before)) s);
-      found = λ l s. record {
-        named = by .result;
-        by-tasks = by .ensures .tasks;
-        by-events = by .ensures .events;
-        by-fewer = by .ensures .fewer;
-        round = c .before .ring-of .result;
-        ring = c .before .ring-of .ensures;
-        verdict = c .verdict .ensures;
-      };
-    }
+returns-3 c = record {
+  no-route = λ l. absurd (omega arith);
+  unsound = λ l s. absurd (clash (told-sound (c .before .before)) s);
+  found = λ l s. c .found .ensures;
+}
 
 pub judge-spec : {M : Type 1} → statement M
 judge-spec =
@@ -68,7 +55,6 @@ judge-spec =
     is-sound-requires
     nobody-requires-2
     returns-2
-    named-by-requires
-    ring-of-requires
-    verdict-requires
+    blocked-requires
+    found-requires
     returns-3)
