@@ -21,9 +21,11 @@ use Rattle.sheet.specs.Reader.{sheetAt}
 use Rattle.sheet.specs.Written.{sheetOf}
 use Rattle.sheet.proofs.Bytes.{sheet-bytes}
 use Rattle.sheet.proofs.Theorems.{accepts}
+use Rattle.writer.specs.Next.{HandedOver, handsOver, stays, sent, handOn}
 use Rattle.writer.specs.Writer.{laidOn}
-use Rattle.sheet_call.specs.Call.{HandedOver, handsOver, stays, sent, handOn, sheetCallOf}
-use Rattle.sheet_call.proofs.InOrder.{no-kind-handed, fault-handed, call-handed, refused-handed}
+use Rattle.writer.proofs.Handing.{refused-handed}
+use Rattle.sheet_call.specs.Call.{sheetCallOf}
+use Rattle.sheet_call.proofs.InOrder.{no-kind-handed, fault-handed, call-handed}
 
 -- ---- a call that is handed on: its refusal, 43, or its next table's sheet
 pub data HandedOn (r : Called) (b : List ℕ) : HandedOver → Type 0 where

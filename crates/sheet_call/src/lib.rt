@@ -4,14 +4,14 @@ use answers::NO_KIND;
 use hall::calls::Call;
 use hall::calls::KINDS;
 use sheet::reader::read;
-use writer::writer::write;
+use writer::next::SheetCalled;
+use writer::next::call_and_write;
 ghost use mathlib.Core.Path.{_≡_};
-ghost use mathlib.Core.List.{List};
-ghost use Prim.Native.Nat.{ℕ};
 ghost use Rattle.hall.specs.Calls.{call};
 ghost use Rattle.hall.specs.Table.{freshTable};
 ghost use Rattle.sheet.specs.Written.{sheetOf};
-ghost use Rattle.sheet_call.specs.Call.{handsOver, stays, sheetCallOf};
+ghost use Rattle.writer.specs.Next.{handsOver};
+ghost use Rattle.sheet_call.specs.Call.{sheetCallOf};
 
 // The sheet of the fresh table, by which a host begins; the C++ header has these bytes as a constant.
 pub const FRESH_SHEET: [u8; 3] = [1, 0, 0];
@@ -23,52 +23,20 @@ fn fresh_sheet() -> [u8; 3]
     FRESH_SHEET
 }
 
-// What a call on a sheet hands back beside the bytes of `next`. `length` is that of the next table's sheet.
-struct SheetCalled {
-    answer: u32,
-    value: u64,
-    length: u64,
-}
-
-fn refused(refusal: u32) -> SheetCalled
-    ensures { λ r. ⌜ ((next : List ℕ) → handsOver (r .answer) (r .value) (r .length) next ≡ stays refusal next) ⌝ }
-{
-    SheetCalled {
-        answer: refusal,
-        value: 0,
-        length: 0,
-    }
-}
-
 // The call on a sheet's table, and the sheet of the table that it leaves.
 fn call_on(sheet: &[u8], call: Call, next: &mut [u8]) -> SheetCalled
     ensures { λ r. ⌜
         handsOver (r .answer) (r .value) (r .length) (now (next .exit)) ≡ sheetCallOf (now (sheet .entry)) call (now (next .entry)) ⌝ }
 {
     if call.kind >= KINDS {
-        return refused(NO_KIND);
+        return SheetCalled::refused(NO_KIND);
     }
     let mut fault: u32 = 0;
     let table = read(sheet, &mut fault);
     if fault != DONE {
-        return refused(fault);
+        return SheetCalled::refused(fault);
     }
-    let called = table.call(call);
-    let answer = called.answer;
-    if answer >= 10 {
-        return refused(answer);
-    }
-    let after = called.table;
-    let written = write(after, next);
-    let short = written.answer;
-    if short != DONE {
-        return refused(short);
-    }
-    SheetCalled {
-        answer,
-        value: called.value,
-        length: written.value,
-    }
+    call_and_write(table, call, next)
 }
 
 // One lent slice is read as the sheet of a table; where the call is accepted, the other then begins with the next table's sheet. `sort` is not looked at:

@@ -4,3 +4,4 @@ pub mod Counting
 pub mod Sheet
 pub mod Answered
 pub mod Theorems
+pub mod Handing

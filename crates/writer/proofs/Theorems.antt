@@ -27,12 +27,12 @@ use Rattle.writer.specs.declared.writer.Written.{Written}
 use Rattle.writer.specs.Writer.{Wrote, wrote, laidOn, writeOf}
 
 -- ---- which answer there is: by the two tests, and with each what else is handed back
-data Way (t : Table) (b : List ℕ) : Wrote → Type 0 where
+pub data Way (t : Table) (b : List ℕ) : Wrote → Type 0 where
   unsound : soundOf t ≡ false → Way t b (wrote notSound 0 b)
   short : soundOf t ≡ true → length b < length (sheetOf t) → Way t b (wrote shortBuffer 0 b)
   whole : soundOf t ≡ true → length (sheetOf t) ≤ length b → Way t b (wrote done (length (sheetOf t)) (laidOn (sheetOf t) b))
 
-way : (t : Table) (b : List ℕ) → Way t b (writeOf t b)
+pub way : (t : Table) (b : List ℕ) → Way t b (writeOf t b)
 unfolding writeOf
 way t b = go (soundOf t) refl (ltb (length b) (length (sheetOf t))) refl
   where

@@ -2,5 +2,6 @@
 mod counts;
 mod entry;
 mod head;
+pub mod next;
 mod number;
 pub mod writer;

@@ -79,15 +79,11 @@ fn is_short(buffer: &mut [u8], table: Table) -> bool
     length < put_sheet(buffer, 0, table)
 }
 
-pub fn write(table: Table, buffer: &mut [u8]) -> Written
+// A sound table's sheet, as `write` writes it: for who has the table from a call, and need not test it again.
+pub(crate) fn write_sound(table: Table, buffer: &mut [u8]) -> Written
+    requires { ⌜ soundOf table ≡ true ⌝ }
     ensures { λ r. ⌜ wrote (r .answer) (r .value) (now (buffer .exit)) ≡ writeOf table (now (buffer .entry)) ⌝ }
 {
-    if !table.is_sound() {
-        return Written {
-            answer: NOT_SOUND,
-            value: 0,
-        };
-    }
     if is_short(buffer, table) {
         return Written {
             answer: SHORT_BUFFER,
@@ -100,4 +96,16 @@ pub fn write(table: Table, buffer: &mut [u8]) -> Written
         answer: DONE,
         value: length as u64,
     }
+}
+
+pub fn write(table: Table, buffer: &mut [u8]) -> Written
+    ensures { λ r. ⌜ wrote (r .answer) (r .value) (now (buffer .exit)) ≡ writeOf table (now (buffer .entry)) ⌝ }
+{
+    if !table.is_sound() {
+        return Written {
+            answer: NOT_SOUND,
+            value: 0,
+        };
+    }
+    write_sound(table, buffer)
 }
