@@ -9,7 +9,8 @@ use Rattle.judge.specs.Verdict.{Judged}
 use Rattle.judge.specs.declared.verdict.Verdict.{Verdict}
 use Rattle.judge.proofs.Named.{found-named, found-by}
 use Rattle.judge.specs.Routes.{largestRoute}
-use Rattle.mollavisce.specs.Entry.{VerdictOf, Entered}
+use Rattle.mollavisce.specs.Entry.{Entered}
+use Rattle.judge.specs.OfSheet.{VerdictOf}
 
 module _ (given route : ℕ) (alike : (largestRoute < given) ↔ (largestRoute < route)) where
   there : route ≤ largestRoute → given ≤ largestRoute

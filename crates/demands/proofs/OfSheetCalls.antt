@@ -22,7 +22,8 @@ use Rattle.hall.proofs.Soundness.{sound-iff}
 use Rattle.sheet.specs.Written.{sheetOf}
 use Rattle.sheet.proofs.Numbers.{Bytes}
 use Rattle.sheet.proofs.Theorems.{refusal-high}
-use Rattle.sheet_call.specs.Call.{HandedOver, handOn, sheetCallOf}
+use Rattle.writer.specs.Next.{HandedOver, handOn}
+use Rattle.sheet_call.specs.Call.{sheetCallOf}
 use Rattle.sheet_call.proofs.InOrder.{no-kind-handed, fault-handed}
 use Rattle.sheet_call.proofs.Theorems.{HandedOn, refused, short, whole, handed-sheet, handed-rest}
 use Rattle.sheet_call.proofs.Theorems.{CalledOn, no-kind, fault, made, called-on, call-stays, call-sheet}

@@ -18,7 +18,8 @@ use Rattle.sheet.specs.Answers.{sheetAnswers}
 use Rattle.sheet.specs.Reader.{Sheet, hands, sheetAt}
 use Rattle.sheet.proofs.Numbers.{Bytes}
 use Rattle.sheet.proofs.Theorems.{accepts, no-longer, settled, answers, refused-fresh}
-use Rattle.mollavisce.specs.Entry.{VerdictOf, Entered}
+use Rattle.mollavisce.specs.Entry.{Entered}
+use Rattle.judge.specs.OfSheet.{VerdictOf}
 use Rattle.mollavisce.specs.Strip.{headOf, stripOf, stripAfter, verdictIn}
 use Rattle.mollavisce.proofs.Answers.{judged-answer, entry-answers}
 use Rattle.mollavisce.proofs.Entered.{Way, no-route, short, reached, way, refused-kept}

@@ -1,25 +1,29 @@
 -- Each public promise allows one answer.
-use mathlib.Core.Path.{_≡_, ap, sym, _∙_}
-use mathlib.Core.List.{List}
+use mathlib.Core.Path.{_≡_, refl, ap, sym, _∙_, subst}
+use mathlib.Core.List.{List, []}
 use Prim.Native.Nat.{ℕ}
 use denote.Ref.{now}
 use Rattle.sets.specs.Set.{Has}
-use Rattle.sets.proofs.One.{has-one, lowest-one}
+use Rattle.sets.proofs.One.{has-one, lowest-one, by-lowest-one}
 use Rattle.sets.proofs.Widths.{same-members}
 use Rattle.deadlock.specs.Ring.{Next}
 use Rattle.deadlock.specs.Walk.{Row}
 use Rattle.deadlock.proofs.One.{named-one, ring-in-one}
-use Rattle.hall.proofs.One.{blocked-one, edges-one}
-use Rattle.density.specs.Density.{FewerEvents}
+use Rattle.states.specs.declared.state.Task.{Task}
+use Rattle.hall.specs.Parts.{BlockedSet}
+use Rattle.hall.specs.declared.table.Table.{Table}
+use Rattle.hall.proofs.One.{blocked-one, edges-one, seats-one}
+use Rattle.density.specs.Parts.{AwaitedTwice}
 use Rattle.density.proofs.Decided.{density-one}
 use Rattle.judge.specs.declared.verdict.Verdict.{Verdict}
 use Rattle.judge.proofs.Named.{task-one, event-one}
 use Rattle.judge.proofs.One.{judged-one}
 use Rattle.text.specs.Text.{textWith}
 use Rattle.text.specs.Verdict.{verdictText}
-use Rattle.sheet.specs.Reader.{Sheet}
+use Rattle.sheet.specs.Reader.{Sheet, hands}
 use Rattle.sheet.proofs.Theorems.{one-number}
 use Rattle.sheet_file.proofs.One.{counted-one}
+use Rattle.writer.proofs.Handing.{called-one}
 use Rattle.writer.proofs.Theorems.{written-one}
 use Rattle.sheet_call.proofs.Theorems.{handed-one}
 use Rattle.mollavisce.proofs.One.{sheet-judged-one, entered-one}
@@ -44,6 +48,19 @@ use Rattle.demands.proofs.writing.rewrite.Reads as own·rewrite
 both : {A : Type 0} {x y z : A} → x ≡ z → y ≡ z → x ≡ y
 both p q = p ∙ sym q
 
+-- what is read with its blocked tasks
+blocked-read-one : (t u : Table) {answer answer′ m n : ℕ} → hands answer t ≡ hands answer′ u → BlockedSet t m → BlockedSet u n
+    → (t ≡ u) × (_≡_ {A = ℕ × ℕ} (answer, m) (answer′, n))
+blocked-read-one t u {m = m} {n = n} same x y =
+    let table = ap (λ (s : Sheet). s .table) same in
+    let answer = ap (λ (s : Sheet). s .answer) same in
+    let blocked = blocked-one u m n (subst (λ v. BlockedSet v m) table x) y in
+    (table, λ i. (answer i, blocked i))
+
+-- some table that has these tasks
+abbrev withTasks : List Task → Table
+withTasks tasks = record { tasks = tasks; opened = []; phases = []; members = [] }
+
 pub one-answer : OneAnswer
 one-answer = record {
   sets = (
@@ -53,11 +70,15 @@ one-answer = record {
     λ κ a r r′ e e′. same-members _ r r′,
     λ κ a r r′ e e′. same-members _ r r′,
     λ κ a r r′ e e′. same-members _ r r′,
+    λ κ a r r′ e e′. same-members _ r r′,
+    λ κ a r r′ e e′. same-members _ r r′,
     λ κ a r r′ e e′. both,
     λ κ a r r′ e e′. lowest-one (a .0) r r′,
+    λ κ a r r′ e e′. by-lowest-one (a .0) r r′ _,
+    λ κ a r r′ e e′. by-lowest-one (a .0) r r′ _,
   );
   deadlock = (
-    λ κ a r r′ e e′. named-one (Row (a .0)) r r′,
+    λ κ a r r′ e e′. named-one (Row (a .1 .0) (a .0)) r r′,
     λ κ a r r′ e e′. ring-in-one (Has (a .1 .0)) (Next (a .0)) r r′,
   );
   states = (
@@ -86,6 +107,7 @@ one-answer = record {
     λ κ a r r′ e e′. both,
     λ κ a r r′ e e′. both,
     λ κ a r r′ e e′ p q. ap (λ (n : ℕ). record { 0 = n }) (both p q),
+    λ κ a r r′ e e′. seats-one (a .0) (a .1 .0) r r′,
     λ κ a r r′ e e′. both,
     λ κ a r r′ e e′. both,
     λ κ a r r′ e e′. blocked-one (a .0) r r′,
@@ -104,12 +126,13 @@ one-answer = record {
   );
   density = (
     λ κ a r r′ e e′. density-one (a .0) r r′,
-    λ κ a r r′ e e′. has-one (FewerEvents (a .0)) r r′,
+    λ κ a r r′ e e′ p q. let t = withTasks (a .0) in has-one (AwaitedTwice t (a .1 .0)) r r′ (p t refl) (q t refl),
   );
   judge = (
     λ κ a r r′ e e′. task-one (a .0) r r′,
     λ κ a r r′ e e′. event-one (a .0) r r′,
     λ κ a r r′ e e′. judged-one (a .0) (a .1 .0) r r′,
+    λ κ a r r′ e e′. sheet-judged-one _ (a .1 .0) r r′,
     λ κ a r r′ e e′. both,
   );
   text = (
@@ -122,6 +145,7 @@ one-answer = record {
     λ κ a r r′ e e′ p q. one-number r r′ (both p q),
     λ κ a r r′ e e′ p q. one-number r r′ (both p q),
     λ κ a r r′ e e′ p q. one-number r r′ (both p q),
+    λ κ a r r′ e e′ p q. blocked-read-one r r′ (both (p .0) (q .0)) (p .1) (q .1),
     λ κ a r r′ e e′ p q. (ap (λ (s : Sheet). s .table) (both p q), ap (λ (s : Sheet). s .answer) (both p q)),
   );
   sheet-file = (
@@ -132,7 +156,11 @@ one-answer = record {
     λ κ a r r′ e e′. both,
     λ κ a r r′ e e′. both,
   );
-  writer = λ κ a r r′ e e′ p q. written-one r r′ (both p q);
+  writer = (
+    λ κ a r r′ e e′ p q. called-one r r′ (both (p []) (q [])) .0,
+    λ κ a r r′ e e′ p q. called-one r r′ (both p q),
+    λ κ a r r′ e e′ p q. written-one r r′ (both p q),
+  );
   sheet-call = λ κ a r r′ e e′ p q. handed-one (both p q);
   mollavisce = (
     λ κ a r r′ e e′. sheet-judged-one _ (a .1 .0) r r′,

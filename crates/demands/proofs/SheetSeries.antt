@@ -21,7 +21,7 @@ use Rattle.sheet.specs.Figures.{longestSheet}
 use Rattle.sheet.specs.Written.{sheetOf}
 use Rattle.sheet.proofs.Examples.{empty}
 use Rattle.sheet.proofs.Theorems.{written-no-longer}
-use Rattle.sheet_call.specs.Call.{HandedOver}
+use Rattle.writer.specs.Next.{HandedOver}
 use Rattle.sheet_call.proofs.Theorems.{HandedOn, refused, short, whole, handed-on, handed-sheet, call-sheet}
 use Rattle.demands.specs.Demands.{MeansNever, MeansNeverOn}
 use Rattle.demands.specs.Series.{Accepted, Series, after, Contains, Never, release, WayOn}

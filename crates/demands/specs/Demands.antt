@@ -28,7 +28,8 @@ use Rattle.sheet.specs.Figures.{longestSheet, settlingBytes}
 use Rattle.sheet.specs.Reader.{hands, sheetAt}
 use Rattle.sheet.specs.Written.{sheetOf}
 use Rattle.writer.specs.Writer.{wrote, laidOn, writeOf}
-use Rattle.mollavisce.specs.Entry.{entryAnswers, VerdictOf, Entered}
+use Rattle.mollavisce.specs.Entry.{entryAnswers, Entered}
+use Rattle.judge.specs.OfSheet.{VerdictOf}
 use Rattle.mollavisce.specs.Strip.{verdictIn}
 use Rattle.demands.specs.PhaserDeadlocks.{TaskMap, StandsFor, DeadlockedWith}
 use Rattle.demands.specs.Series.{StuckIn, Never, WayOn, NeverOn, WayOnFrom}

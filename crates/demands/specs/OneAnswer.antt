@@ -8,11 +8,15 @@ use denote.Ref.{now}
 use Rattle.sets.proofs.has.Reads as sets·has
 use Rattle.sets.proofs.only.Reads as sets·only
 use Rattle.sets.proofs.common.Reads as sets·common
+use Rattle.sets.proofs.either.Reads as sets·either
 use Rattle.sets.proofs.less.Reads as sets·less
 use Rattle.sets.proofs.take.Reads as sets·take
 use Rattle.sets.proofs.kept.Reads as sets·kept
+use Rattle.sets.proofs.marked.Reads as sets·marked
 use Rattle.sets.proofs.size.Reads as sets·size
 use Rattle.sets.proofs.lowest.Reads as sets·lowest
+use Rattle.sets.proofs.rest.Reads as sets·rest
+use Rattle.sets.proofs.until.Reads as sets·until
 use Rattle.deadlock.proofs.elimination.named.Reads as deadlock·named
 use Rattle.deadlock.proofs.ring.ring.Reads as deadlock·ring
 use Rattle.states.proofs.state.State.is_free.Reads as states·is-free
@@ -41,6 +45,7 @@ use Rattle.hall.proofs.table.Table.phase_at.Reads as hall·phase-at
 use Rattle.hall.proofs.table.Table.is_sound.Reads as hall·is-sound
 use Rattle.hall.proofs.table.Table.blocked.Reads as hall·blocked
 use Rattle.hall.proofs.table.Table.edges.Reads as hall·edges
+use Rattle.hall.proofs.table.Table.seats.Reads as hall·seats
 use Rattle.hall.proofs.table.Table.reached.Reads as hall·reached
 use Rattle.hall.proofs.table.Table.open_task.Reads as hall·open-task
 use Rattle.hall.proofs.table.Table.end_task.Reads as hall·end-task
@@ -54,10 +59,11 @@ use Rattle.hall.proofs.table.Table.wait_at.Reads as hall·wait-at
 use Rattle.hall.proofs.table.Table.release.Reads as hall·release
 use Rattle.hall.proofs.table.Table.call.Reads as hall·call
 use Rattle.density.proofs.density.density_of.Reads as density·density-of
-use Rattle.density.proofs.events.fewer_events.Reads as density·fewer-events
+use Rattle.density.proofs.events.awaited_twice.Reads as density·awaited-twice
 use Rattle.judge.proofs.task_route.task_route.Reads as judge·task-route
 use Rattle.judge.proofs.event_route.event_route.Reads as judge·event-route
 use Rattle.judge.proofs.judge.judge.Reads as judge·judge
+use Rattle.judge.proofs.of_sheet.verdict_of.Reads as judge·verdict-of
 use Rattle.judge.proofs.verdict.Verdict.nobody.Reads as judge·nobody
 use Rattle.text.proofs.verdict.text_of.Reads as text·text-of
 use Rattle.text.proofs.densities.sheet_line.Reads as text·sheet-line
@@ -66,6 +72,7 @@ use Rattle.text.proofs.densities.stopped_line.Reads as text·stopped-line
 use Rattle.sheet.proofs.number.plain.Reads as sheet·plain
 use Rattle.sheet.proofs.number.read.Reads as sheet·number
 use Rattle.sheet.proofs.number.rising.Reads as sheet·rising
+use Rattle.sheet.proofs.reader.read_with_blocked.Reads as sheet·read-with-blocked
 use Rattle.sheet.proofs.reader.read.Reads as sheet·read
 use Rattle.sheet_file.proofs.counted.count.Reads as sheet-file·count
 use Rattle.sheet_file.proofs.piece.next_piece.Reads as sheet-file·next-piece
@@ -73,6 +80,8 @@ use Rattle.sheet_file.proofs.piece.wanted.Reads as sheet-file·wanted
 use Rattle.sheet_file.proofs.totals.Totals.none.Reads as sheet-file·none
 use Rattle.sheet_file.proofs.totals.Totals.with.Reads as sheet-file·with
 use Rattle.sheet_file.proofs.totals.Totals.done.Reads as sheet-file·done
+use Rattle.writer.proofs.next.SheetCalled.refused.Reads as writer·refused
+use Rattle.writer.proofs.next.call_and_write.Reads as writer·call-and-write
 use Rattle.writer.proofs.writer.write.Reads as writer·write
 use Rattle.sheet_call.proofs.sheet_call.Reads as sheet-call·sheet-call
 use Rattle.mollavisce.proofs.entry.verdict_of.Reads as mollavisce·verdict-of
@@ -89,8 +98,9 @@ OneLent {L} {B} {A} {R} {E} lent Learnt =
 
 -- of each crate, in the order of its files
 pub record OneAnswer : Type 1 where
-  pub sets : One sets·has.Learnt × One sets·only.Learnt × One sets·common.Learnt × One sets·less.Learnt × One sets·take.Learnt × One sets·kept.Learnt
-      × One sets·size.Learnt × One sets·lowest.Learnt
+  pub sets : One sets·has.Learnt × One sets·only.Learnt × One sets·common.Learnt × One sets·either.Learnt × One sets·less.Learnt
+      × One sets·take.Learnt × One sets·kept.Learnt × One sets·marked.Learnt × One sets·size.Learnt × One sets·lowest.Learnt × One sets·rest.Learnt
+      × One sets·until.Learnt
   pub deadlock : One deadlock·named.Learnt × One deadlock·ring.Learnt
   pub states : One states·is-free.Learnt × One states·is-live.Learnt × One states·is-running.Learnt × One states·is-blocked.Learnt
       × One states·entry-sound.Learnt × One states·state-sound.Learnt × One states·behind.Learnt × One states·column.Learnt
@@ -98,17 +108,20 @@ pub record OneAnswer : Type 1 where
       × One states·caller-refusal.Learnt
       × One states·member-refusal.Learnt × One states·admit-refusal.Learnt × One states·arrive-refusal.Learnt × One states·wait-at-refusal.Learnt
   pub hall : One hall·fresh.Learnt × One hall·shaped.Learnt × One hall·state-at.Learnt × One hall·open-at.Learnt × One hall·member-at.Learnt
-      × One hall·phase-at.Learnt × One hall·is-sound.Learnt × One hall·reached.Learnt × One hall·blocked.Learnt × One hall·edges.Learnt
+      × One hall·phase-at.Learnt × One hall·seats.Learnt × One hall·is-sound.Learnt × One hall·reached.Learnt × One hall·blocked.Learnt
+      × One hall·edges.Learnt
       × One hall·open-task.Learnt × One hall·end-task.Learnt × One hall·open-phaser.Learnt × One hall·close-phaser.Learnt × One hall·admit.Learnt
       × One hall·leave.Learnt × One hall·arrive.Learnt × One hall·wait.Learnt × One hall·wait-at.Learnt × One hall·release.Learnt
       × One hall·call.Learnt
-  pub density : One density·density-of.Learnt × One density·fewer-events.Learnt
-  pub judge : One judge·task-route.Learnt × One judge·event-route.Learnt × One judge·judge.Learnt × One judge·nobody.Learnt
+  pub density : One density·density-of.Learnt × One density·awaited-twice.Learnt
+  pub judge : One judge·task-route.Learnt × One judge·event-route.Learnt × One judge·judge.Learnt × One judge·verdict-of.Learnt × One judge·nobody.Learnt
   pub text : One text·text-of.Learnt × One text·sheet-line.Learnt × One text·total-line.Learnt × One text·stopped-line.Learnt
-  pub sheet : One sheet·plain.Learnt × One sheet·number.Learnt × One sheet·rising.Learnt × OneLent (λ κ e. now (e .1 .0)) sheet·read.Learnt
+  pub sheet : One sheet·plain.Learnt × One sheet·number.Learnt × One sheet·rising.Learnt
+      × OneLent {B = ℕ × ℕ} (λ κ e. (now (e .1 .0), now (e .1 .1 .0))) sheet·read-with-blocked.Learnt × OneLent (λ κ e. now (e .1 .0)) sheet·read.Learnt
   pub sheet-file : One sheet-file·count.Learnt × One sheet-file·next-piece.Learnt × One sheet-file·wanted.Learnt × One sheet-file·none.Learnt
       × One sheet-file·with.Learnt × One sheet-file·done.Learnt
-  pub writer : OneLent (λ κ e. now (e .1 .0)) writer·write.Learnt
+  pub writer : One writer·refused.Learnt × OneLent (λ κ e. now (e .1 .1 .0)) writer·call-and-write.Learnt
+      × OneLent (λ κ e. now (e .1 .0)) writer·write.Learnt
   -- `next`, `value` and `length`, its seventh parameter and the two after it
   pub sheet-call : OneLent {B = List ℕ × ℕ × ℕ}
       (λ κ e. let lent = e .1 .1 .1 .1 .1 .1 in (now (lent .0), now (lent .1 .0), now (lent .1 .1 .0))) sheet-call·sheet-call.Learnt

@@ -11,7 +11,8 @@ use Rattle.hall.specs.Calls.{call, callOf}
 use Rattle.hall.specs.Waiting.{BlockedOn, Impedes}
 use Rattle.hall.specs.declared.calls.Call.{Call}
 use Rattle.hall.specs.declared.table.Table.{Table}
-use Rattle.sheet_call.specs.Call.{HandedOver, sheetCallOf}
+use Rattle.writer.specs.Next.{HandedOver}
+use Rattle.sheet_call.specs.Call.{sheetCallOf}
 
 -- "A task is named when some totally deadlocked set holds it" (document 01, 'Stuck'). A set of tasks is a number, bit k for task k; a law has the same of any
 -- predicate on tasks in its place

@@ -16,7 +16,8 @@ use Rattle.hall.specs.declared.table.Table.{Table}
 use Rattle.sheet.specs.Figures.{longestSheet}
 use Rattle.sheet.specs.Reader.{sheetAt}
 use Rattle.sheet.specs.Written.{sheetOf}
-use Rattle.sheet_call.specs.Call.{HandedOver, handOn, sheetCallOf}
+use Rattle.writer.specs.Next.{HandedOver, handOn}
+use Rattle.sheet_call.specs.Call.{sheetCallOf}
 use Rattle.demands.specs.Demands.{SheetOfSound, OfSheet, CallAnswered}
 use Rattle.demands.specs.Moves.{ByRules}
 use Rattle.demands.specs.Series.{Accepted, sheetLeft}

@@ -4,7 +4,7 @@ use hall::table::Table;
 use judge::verdict::Verdict;
 use text::text::Text;
 ghost use Rattle.hall.specs.Calls.{call};
-ghost use Rattle.sheet_call.specs.Call.{handsOver};
+ghost use Rattle.writer.specs.Next.{handsOver};
 ghost use Rattle.demands.specs.Demands.{SheetRead, SheetVerdict, SheetAnswered, SheetPrinted};
 ghost use Rattle.demands.specs.SheetCalls.{SheetCallAnswered};
 
