@@ -1,5 +1,9 @@
-// Beside plain C++ (reference.cpp) in the same run: time of a whole verdict by each route and of a call, where they are
-// accepted and where they are refused; and their stack. Fails where the stack is over its limit. No time has a limit.
+// Beside plain C++ (reference.cpp) in the same run: time of a whole verdict by each route, on nine sheets and on random
+// ones, and of a call, where they are accepted and where they are refused; and their stack. Fails where a limit below
+// is passed.
+//
+//     bench            holds stack and times to their limits
+//     bench untimed    holds the stack alone, as under an emulator, where times mean nothing
 #include "reference.hpp"
 
 #include <mollavisce.hpp>
@@ -11,6 +15,7 @@
 #include <cstdlib>
 #include <cstring>
 #include <pthread.h>
+#include <random>
 #include <string>
 #include <sys/mman.h>
 #include <vector>
@@ -28,26 +33,42 @@ namespace {
 using Bytes = std::vector<std::uint8_t>;
 using mollavisce::Strip;
 
-constexpr std::size_t verdict_stack_limit = 12000, call_stack_limit = 16000;
+// The first is for each of the nine sheets by each route, in times of plain C++ at -O2.
+constexpr double time_limit = 1.2;
+constexpr std::size_t verdict_stack_limit = 8192, call_stack_limit = 16000;
 
-// Nanoseconds of a call, the least of several rounds in which the ways take turns.
-constexpr int rounds = 400, repeats = 50;
+// What is over its limit.
+struct Over {
+    std::string what;
+    double measured, limit;
+    const char *unit;
+};
+using Overs = std::vector<Over>;
 
-template <std::size_t count, class Work>
-std::array<double, count> time(Work work) {
-    using Clock = std::chrono::steady_clock;
+// Nanoseconds of a call by each of several ways: the least of all rounds, in which the ways take turns.
+struct Rounds {
+    int count, calls;
+};
+constexpr Rounds usual = {400, 50}, few = {40, 20};
+
+template <std::size_t count>
+struct Times {
     std::array<double, count> least;
-    least.fill(1e18);
-    for (int round = 0; round < rounds; ++round)
-        for (std::size_t way = 0; way < count; ++way) {
-            const auto start = Clock::now();
-            for (int repeat = 0; repeat < repeats; ++repeat)
-                work(way);
-            const std::chrono::duration<double, std::nano> taken = Clock::now() - start;
-            least[way] = std::min(least[way], taken.count() / repeats);
-        }
-    return least;
-}
+
+    Times() { least.fill(1e18); }
+    template <class Work>
+    void take(Rounds rounds, Work work) {
+        using Clock = std::chrono::steady_clock;
+        for (int round = 0; round < rounds.count; ++round)
+            for (std::size_t way = 0; way < count; ++way) {
+                const auto start = Clock::now();
+                for (int call = 0; call < rounds.calls; ++call)
+                    work(way);
+                const std::chrono::duration<double, std::nano> taken = Clock::now() - start;
+                least[way] = std::min(least[way], taken.count() / rounds.calls);
+            }
+    }
+};
 
 // Bytes of stack below the caller of a call, on a thread whose stack was filled with a pattern.
 constexpr std::size_t stack_size = 1 << 20;
@@ -141,6 +162,61 @@ Bytes hall(unsigned tasks, unsigned phasers, unsigned phase) {
     return written(table);
 }
 
+// Random sheets, the same on every machine. Of those that check draws too few have anybody blocked.
+
+unsigned below(unsigned bound) {
+    static std::mt19937_64 source(20261116);
+    return static_cast<unsigned>(source() % bound);
+}
+
+// So many of the numbers below a bound, rising.
+std::vector<unsigned> some(unsigned count, unsigned bound) {
+    std::vector<unsigned> chosen;
+    for (unsigned number = 0; number < bound; ++number)
+        if (below(bound - number) < count - chosen.size())
+            chosen.push_back(number);
+    return chosen;
+}
+
+struct Drawn {
+    Bytes sheet;
+    std::size_t tasks, phasers, blocked;
+};
+
+// Sizes go round, from no task to 32 and from one phaser to 16, so that no two sheets have both in common. Phases are
+// close together, so that waits hold each other up. In about half of the sheets who waits has arrived there himself:
+// else the rings would mostly be of one task.
+constexpr unsigned drawn_count = 400;
+
+Drawn drawn(unsigned number) {
+    static const unsigned firsts[] = {0, 126, 16382, 65530}, memberships[] = {5, 10, 25, 50, 75, 100};
+    const std::vector<unsigned> tasks = some(number % 33, 32), phasers = some(1 + number % 16, 16);
+    const unsigned first = firsts[below(4)], reach = 1 + below(4), joined = memberships[below(6)],
+                   waiting = 25 + below(76);
+    const bool arrived = below(2) == 0;
+    reference::Table table;
+    std::size_t blocked = 0;
+    for (unsigned p : phasers)
+        table.open[p] = true;
+    for (unsigned k : tasks) {
+        reference::Task &task = table.task[k];
+        task.state = reference::State::running;
+        for (unsigned p : phasers)
+            if (below(100) < joined) {
+                table.member[k][p] = true;
+                table.phase[k][p] = first + below(reach);
+            }
+        if (below(100) < waiting) {
+            const unsigned p = phasers[below(static_cast<unsigned>(phasers.size()))];
+            task = {reference::State::blocked, p, first + below(reach + 1)};
+            ++blocked;
+            if (arrived && table.member[k][p])
+                table.phase[k][p] = std::max(table.phase[k][p], task.phase);
+        }
+    }
+    return {written(table), tasks.size(), phasers.size(), blocked};
+}
+
 // Verdicts
 
 struct Way {
@@ -157,47 +233,104 @@ constexpr std::size_t route_count = 3, way_count = route_count + 2;
 const Way ways[way_count] = {
     {sheet_verdict, 0}, {sheet_verdict, 1}, {sheet_verdict, 2}, {reference::verdict, 0}, {reference_o3::verdict, 0}};
 
+using VerdictTimes = Times<way_count>;
+
+// How many times the time of plain C++ a route takes.
+double ratio(const VerdictTimes &times, std::size_t route, std::size_t plain) {
+    return times.least[route] / times.least[plain];
+}
+
 struct Row {
     const char *what;
     Bytes sheet;
 };
 
-// Times one sheet, whose answer is known and on which all ways must agree, and prints a line.
-void measure(const Row &row, std::uint32_t answer) {
+// Adds to the times of a sheet whose answer is known, and hands back its strip. All ways must agree on both.
+Strip measure(const Bytes &sheet, std::uint32_t answer, Rounds rounds, VerdictTimes &times) {
     Strip strips[way_count];
     for (std::size_t k = 0; k < way_count; ++k) {
         strips[k] = mollavisce::nobody();
-        if (ways[k](row.sheet, strips[k]) != answer || strips[k] != strips[0])
+        if (ways[k](sheet, strips[k]) != answer || strips[k] != strips[0])
             std::abort();
     }
-    const auto ns = time<way_count>([&](std::size_t k) { ways[k](row.sheet, strips[k]); });
+    times.take(rounds, [&](std::size_t k) { ways[k](sheet, strips[k]); });
+    return strips[0];
+}
+
+const char *const verdict_columns = "bytes | route 0 route 1 route 2     -O2     -O3 |"
+                                    "   0/-O2   1/-O2   2/-O2   0/-O3   1/-O3   2/-O3";
+
+void print(const Row &row, const VerdictTimes &times) {
     std::printf("%-39s%5zu |", row.what, row.sheet.size());
-    for (double of_way : ns)
+    for (double of_way : times.least)
         std::printf("%8.0f", of_way);
     std::printf(" |");
     for (std::size_t plain = route_count; plain < way_count; ++plain)
         for (std::size_t route = 0; route < route_count; ++route)
-            std::printf("%8.2f", ns[route] / ns[plain]);
+            std::printf("%8.2f", ratio(times, route, plain));
     std::printf("\n");
 }
 
-void verdicts(const std::vector<Row> &rows) {
-    std::printf("Nanoseconds of a whole verdict, reading and judging: the least of %d rounds of %d calls.\n"
-                "  bytes      length of the sheet\n"
-                "  route 0..  sheet_verdict of the archive, from task to task, from event to event, by the fewer\n"
-                "  -O2, -O3   plain C++ that answers the same (reference.cpp), which has no routes, compiled so\n"
-                "  0/-O2 ..   how many times the time of plain C++ a route takes\n",
-                rounds, repeats);
-    const char *const columns = "bytes | route 0 route 1 route 2     -O2     -O3 |"
-                                "   0/-O2   1/-O2   2/-O2   0/-O3   1/-O3   2/-O3";
-    std::printf("%-39s%s\n", "Accepted", columns);
-    for (const Row &row : rows)
-        measure(row, 0);
-    std::printf("%-39s%s\n", "Refused with 35: a byte added", columns);
-    for (Row row : rows) {
-        row.sheet.push_back(0);
-        measure(row, 35);
+// While one is over its limit all are timed again, up to three times in all, since the machine may have been busy. The
+// least that is kept is the least of plain C++ too.
+void accepted_verdicts(const std::vector<Row> &rows, bool timed, Overs &overs) {
+    std::vector<VerdictTimes> times(rows.size());
+    Overs over;
+    for (int turn = 0; turn == 0 || (turn < 3 && !over.empty()); ++turn) {
+        over.clear();
+        for (std::size_t n = 0; n < rows.size(); ++n) {
+            measure(rows[n].sheet, 0, usual, times[n]);
+            for (std::size_t route = 0; timed && route < route_count; ++route)
+                if (const double taken = ratio(times[n], route, route_count); taken > time_limit)
+                    over.push_back({std::string(rows[n].what) + ", route " + std::to_string(route), taken, time_limit,
+                                    "times -O2"});
+        }
     }
+    std::printf("%-39s%s\n", "Accepted", verdict_columns);
+    for (std::size_t n = 0; n < rows.size(); ++n)
+        print(rows[n], times[n]);
+    overs.insert(overs.end(), over.begin(), over.end());
+}
+
+void refused_verdicts(std::vector<Row> rows) {
+    std::printf("%-39s%s\n", "Refused with 35: a byte added", verdict_columns);
+    for (Row &row : rows) {
+        row.sheet.push_back(0);
+        VerdictTimes times;
+        measure(row.sheet, 35, usual, times);
+        print(row, times);
+    }
+}
+
+void random_verdicts(const std::vector<Drawn> &sheets) {
+    std::vector<VerdictTimes> times(sheets.size());
+    std::vector<unsigned> named;
+    for (std::size_t n = 0; n < sheets.size(); ++n)
+        named.push_back(
+            mollavisce::Verdict{mollavisce::Answer::done, measure(sheets[n].sheet, 0, few, times[n])}.count());
+    const auto nobody = std::count(named.begin(), named.end(), 0u);
+    std::printf("%zu random sheets, all accepted; %zu of them have somebody named\n", sheets.size(),
+                sheets.size() - static_cast<std::size_t>(nobody));
+    std::printf("%-15s%8s%9s%3.1f%8s |%8s%9s%9s%7s%7s%9s%9s\n", "", "mean", "over ", time_limit, "worst", "tasks",
+                "phasers", "blocked", "named", "bytes", "route", "plain");
+    for (std::size_t plain = route_count; plain < way_count; ++plain)
+        for (std::size_t route = 0; route < route_count; ++route) {
+            double sum = 0;
+            std::size_t over = 0, worst = 0;
+            for (std::size_t n = 0; n < sheets.size(); ++n) {
+                const double taken = ratio(times[n], route, plain);
+                sum += taken;
+                over += taken > time_limit;
+                if (taken > ratio(times[worst], route, plain))
+                    worst = n;
+            }
+            const Drawn &sheet = sheets[worst];
+            std::printf("%zu/%-13s%8.2f%12s%8.2f |%8zu%9zu%9zu%7u%7zu%9.0f%9.0f\n", route,
+                        plain == route_count ? "-O2" : "-O3", sum / static_cast<double>(sheets.size()),
+                        plain == route_count ? std::to_string(over).c_str() : "", ratio(times[worst], route, plain),
+                        sheet.tasks, sheet.phasers, sheet.blocked, named[worst], sheet.sheet.size(),
+                        times[worst].least[route], times[worst].least[plain]);
+        }
 }
 
 // Calls
@@ -235,7 +368,9 @@ void measure(const CallRow &row, bool exact) {
     const std::size_t length = outcomes[0].length;
     if (exact)
         room = length;
-    const auto ns = time<caller_count>([&](std::size_t k) { call(k, row, room, outcomes[k]); });
+    Times<caller_count> times;
+    times.take(usual, [&](std::size_t k) { call(k, row, room, outcomes[k]); });
+    const auto &ns = times.least;
     std::printf("%-39s%5zu%6zu |%8.0f%8.0f%8.0f |%8.2f%8.2f\n", row.what.c_str(), row.sheet.size(), length, ns[0],
                 ns[1], ns[2], ns[0] / ns[1], ns[0] / ns[2]);
 }
@@ -282,13 +417,7 @@ std::vector<CallRow> refused_calls() {
 }
 
 void calls(const std::vector<CallRow> &accepted) {
-    std::printf("Nanoseconds of a call, reading, testing and writing: the least of %d rounds of %d calls.\n"
-                "  bytes      length of the sheet\n"
-                "  next       length of the next sheet\n"
-                "  archive    sheet_call of the archive\n"
-                "  -O2, -O3   plain C++ that does the same (reference.cpp), compiled so\n"
-                "  /-O2 ..    how many times the time of plain C++ the archive takes\n",
-                rounds, repeats);
+    std::printf("\nCalls\n");
     const char *const columns = "bytes  next | archive     -O2     -O3 |    /-O2    /-O3";
     std::printf("%-39s%s\n", "Into the bytes of the longest sheet", columns);
     for (const CallRow &row : accepted)
@@ -303,13 +432,13 @@ void calls(const std::vector<CallRow> &accepted) {
 
 // After all times are taken: what the linker does at a first call is then not counted, and an emulator may be slower
 // from the first thread on.
-bool stacks(const std::vector<Row> &sheets, const std::vector<CallRow> &accepted) {
+void stacks(const std::vector<Bytes> &sheets, const std::vector<CallRow> &accepted, Overs &overs) {
     std::size_t verdict[way_count] = {}, call_stack[caller_count] = {};
-    for (const Row &row : sheets)
+    for (const Bytes &sheet : sheets)
         for (std::size_t k = 0; k < way_count; ++k)
-            verdict[k] = std::max(verdict[k], stack_of([&row, k] {
+            verdict[k] = std::max(verdict[k], stack_of([&sheet, k] {
                                       Strip strip;
-                                      ways[k](row.sheet, strip);
+                                      ways[k](sheet, strip);
                                   }));
     Outcome outcome;
     for (const CallRow &row : accepted)
@@ -318,19 +447,52 @@ bool stacks(const std::vector<Row> &sheets, const std::vector<CallRow> &accepted
                 call_stack[k] = std::max(call_stack[k], stack_of([&row, &outcome, k, room] {
                                              call(k, row, std::min(room, outcome.next.size()), outcome);
                                          }));
+    std::printf("\nBytes of stack, the most over all that are accepted\n"
+                "of a verdict: route 0 %zu, route 1 %zu, route 2 %zu, -O2 %zu, -O3 %zu\n"
+                "of a call: archive %zu, -O2 %zu, -O3 %zu\n",
+                verdict[0], verdict[1], verdict[2], verdict[3], verdict[4], call_stack[0], call_stack[1],
+                call_stack[2]);
+    const auto hold = [&](const std::string &what, std::size_t used, std::size_t limit) {
+        if (used > limit)
+            overs.push_back({what, static_cast<double>(used), static_cast<double>(limit), "bytes of stack"});
+    };
+    for (std::size_t route = 0; route < route_count; ++route)
+        hold("a verdict, route " + std::to_string(route), verdict[route], verdict_stack_limit);
+    hold("a call", call_stack[0], call_stack_limit);
+}
+
+void legend(bool timed) {
     std::printf(
-        "Bytes of stack of a verdict, the most over the accepted: route 0 %zu, route 1 %zu, route 2 %zu, -O2 %zu, "
-        "-O3 %zu\n"
-        "Bytes of stack of a call, the most over the accepted: archive %zu, -O2 %zu, -O3 %zu\n",
-        verdict[0], verdict[1], verdict[2], verdict[3], verdict[4], call_stack[0], call_stack[1], call_stack[2]);
-    return *std::max_element(verdict, verdict + route_count) <= verdict_stack_limit &&
-           call_stack[0] <= call_stack_limit;
+        "Time and stack of the archive's two entries beside plain C++ that answers the same (reference.cpp).\n"
+        "  bytes, next    length of the sheet, and of the sheet that a call writes\n"
+        "  route 0, 1, 2  nanoseconds of a whole verdict, reading and judging, by sheet_verdict: from task to\n"
+        "                 task, from event to event, by the fewer\n"
+        "  archive        nanoseconds of a whole call, reading, testing and writing, by sheet_call\n"
+        "  -O2, -O3       nanoseconds of plain C++, compiled so; it has no routes\n"
+        "  0/-O2, /-O2    how many times the time of plain C++ route 0, or the archive, takes; under 1 is faster\n"
+        "  mean, worst    of these ratios over the random sheets; to the right of the line, what the worst is\n"
+        "                 made of: how many tasks, open phasers, blocked and named tasks, bytes, and both times\n"
+        "  over %.1f       how many of the random sheets have a ratio to -O2 over that\n"
+        "A time is the least of %d rounds of %d calls in which the ways take turns; of a random sheet, of %d of %d "
+        "calls.\n"
+        "Limits. What is over one is said in the last lines, and the run fails (exit 1):\n"
+        "  %.1f times -O2 for each of the nine accepted sheets by each route%s\n"
+        "  %zu bytes of stack for a verdict by each route\n"
+        "  %zu bytes of stack for a call\n"
+        "The nine are timed up to three times before they fail. Nothing else that is timed has a limit.\n",
+        time_limit, usual.count, usual.calls, few.count, few.calls, time_limit,
+        timed ? "" : " (not held to: this run is untimed)", verdict_stack_limit, call_stack_limit);
 }
 
 } // namespace
 
-int main() {
-    const std::vector<Row> sheets = {
+int main(int count, char **words) {
+    const bool timed = count == 1;
+    if (!timed && (count > 2 || std::strcmp(words[1], "untimed") != 0)) {
+        std::fprintf(stderr, "usage: bench [untimed]\n");
+        return 2;
+    }
+    const std::vector<Row> nine = {
         {"no task, no phaser", {1, 0, 0}},
         {"document 01's P4", {1, 2, 0, 1, 2, 0, 1, 0, 1, 2, 0, 1, 1, 0, 1, 1, 1, 1, 2, 0, 0, 1, 1}},
         {"5 tasks at 4 phasers, 4 blocked", crowd(5, 4, 4)},
@@ -341,8 +503,24 @@ int main() {
         {"the longest: 32 at 16, all blocked", crowd(32, 16, 32)},
         {"32 tasks at 16 phasers, nobody blocked", crowd(32, 16, 0)},
     };
+    std::vector<Drawn> draws;
+    std::vector<Bytes> sheets;
+    for (const Row &row : nine)
+        sheets.push_back(row.sheet);
+    for (unsigned number = 0; number < drawn_count; ++number) {
+        draws.push_back(drawn(number));
+        sheets.push_back(draws.back().sheet);
+    }
     const std::vector<CallRow> accepted = accepted_calls();
-    verdicts(sheets);
+    Overs overs;
+    legend(timed);
+    std::printf("\nVerdicts\n");
+    accepted_verdicts(nine, timed, overs);
+    refused_verdicts(nine);
+    random_verdicts(draws);
     calls(accepted);
-    return stacks(sheets, accepted) ? 0 : 1;
+    stacks(sheets, accepted, overs);
+    for (const Over &over : overs)
+        std::printf("Over its limit of %.5g %s: %s, %.5g\n", over.limit, over.unit, over.what.c_str(), over.measured);
+    return overs.empty() ? 0 : 1;
 }
