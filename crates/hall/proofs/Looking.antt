@@ -82,12 +82,8 @@ module _ (t : Table) (k : ℕ) (l : k < 32) where
       go (yes h) = simp (lt-ltb _ _ h, mod-eq-of-lt h, member-in t k _ l h, phase-in t k _ l h)
       go (no h) = simp (le-ltb (e .phaser .0) 16 (omega arith), member-out t k (e .phaser .0) (omega arith))
 
-  module _ (e : Awaited) (p : ℕ) (b : Bool) (column : p ≡ e .phaser .0 % 16) (h : b ≡ entry p e) where
-    pub impedes-is : b ≡ impedesOf t k e
-    impedes-is = h ∙ ap (λ j. entry j e) column ∙ impedes-at e
-
-    pub impedes-read : (b ≡ true) ↔ Impedes t k e
-    impedes-read = (λ y. sym impedes-is ∙ y, λ y. impedes-is ∙ y)
+  pub impedes-is : (e : Awaited) (p : ℕ) (b : Bool) → p ≡ e .phaser .0 % 16 → b ≡ entry p e → b ≡ impedesOf t k e
+  impedes-is e p b column h = h ∙ ap (λ j. entry j e) column ∙ impedes-at e
 
   -- whether its kept phase, read at e's column, is less than e's
   pub late-read : (e : Awaited) (p : ℕ) (b : Bool) → p ≡ e .phaser .0 % 16 → b ≡ impedesAt true (getD (t .phases) (k * 16 + p) phase0) e

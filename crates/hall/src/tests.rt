@@ -97,12 +97,15 @@ impl Table {
             let state = found.state;
             if p < 16 {
                 let i = (k * 16 + p) as usize;
+                let opened = self.opened[p as usize];
+                let member = self.members[i];
+                let phase = self.phases[i];
                 return Seen {
                     sound,
                     state,
-                    opened: self.opened[p as usize],
-                    member: self.members[i],
-                    phase: self.phases[i],
+                    opened,
+                    member,
+                    phase,
                 };
             }
             return no_entry(sound, state, false);

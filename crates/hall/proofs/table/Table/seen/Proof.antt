@@ -22,17 +22,17 @@ mul-i c = search needs
 add-i : tie.Need-add-i
 add-i c = search needs
 
-element-copy-out-t24 : tie.Need-element-copy-out-t24
-element-copy-out-t24 c = search needs
+element-copy-out-opened : tie.Need-element-copy-out-opened
+element-copy-out-opened c = search needs
 
-element-copy-out-t27 : tie.Need-element-copy-out-t27
-element-copy-out-t27 c = search needs
+element-copy-out-member : tie.Need-element-copy-out-member
+element-copy-out-member c = search needs
 
-mul-t28 : tie.Need-mul-t28
-mul-t28 c = search needs
+mul-phase : tie.Need-mul-phase
+mul-phase c = search needs
 
-element-copy-out-t31 : tie.Need-element-copy-out-t31
-element-copy-out-t31 c = search needs
+element-copy-out-phase : tie.Need-element-copy-out-phase
+element-copy-out-phase c = search needs
 
 returns : tie.Need-returns
 unfolding stateAt openAt memberAt phaseAt
@@ -106,10 +106,10 @@ seen-spec =
     element-copy-out-found
     mul-i
     add-i
-    element-copy-out-t24
-    element-copy-out-t27
-    mul-t28
-    element-copy-out-t31
+    element-copy-out-opened
+    element-copy-out-member
+    mul-phase
+    element-copy-out-phase
     returns
     no-entry-requires
     returns-2
