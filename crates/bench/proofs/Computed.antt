@@ -37,7 +37,7 @@ use Rattle.density.proofs.Twins.{countOf, pairsOf, standsAt, impedesAt, joinedA
 use Rattle.judge.proofs.One.{routes-agree}
 use Rattle.sets.proofs.Masks.{maskOf}
 use Rattle.judge.proofs.Twins.{rowsOf, namedIn, ringIn, roundIn, judgeOf, judgeOf-judged}
-use Rattle.sheet.specs.Number.{plainAt, numberAt}
+use Rattle.fields.specs.Number.{plainAt, numberAt}
 use Rattle.bench.specs.Bench.{Row, judged, dense, called, read, statedOf, countsOf, Holds, Each, openTask, p2, p3, p4, p5, p6, p7, p8, p9}
 use Rattle.bench.specs.Bench.{figure2, section2-4, example4-1, example4-1-before, example4-2, example4-3, rows}
 use Rattle.hall.specs.declared.calls.Call.{Call}

@@ -16,8 +16,8 @@ use Rattle.density.specs.declared.density.Density.{Density}
 use Rattle.judge.specs.Routes.{largestRoute}
 use Rattle.judge.specs.Verdict.{Judged}
 use Rattle.judge.specs.declared.verdict.Verdict.{Verdict}
-use Rattle.sheet.specs.Got.{Got, value, refused}
-use Rattle.sheet.specs.Number.{numberAt}
+use Rattle.fields.specs.Got.{Got, value, refused}
+use Rattle.fields.specs.Number.{numberAt}
 use Rattle.hall.specs.declared.calls.Call.{Call}
 use Rattle.hall.specs.Calls.{call, callOf}
 use Rattle.demands.specs.Series.{Series, after}

@@ -141,10 +141,16 @@ one-answer = record {
     λ κ a r r′ e e′ p q. both (p .0) (q .0),
     λ κ a r r′ e e′ p q. both (p .0) (q .0),
   );
+  fields = (
+    λ κ a r r′ e e′ p q. one-number r r′ (both p q),
+    λ κ a r r′ e e′ p q. one-number r r′ (both p q),
+    λ κ a r r′ e e′ p q. one-number r r′ (both p q),
+    λ κ a r r′ e e′. both,
+    λ κ a r r′ e e′. both,
+    λ κ a r r′ e e′. both,
+    λ κ a r r′ e e′. both,
+  );
   sheet = (
-    λ κ a r r′ e e′ p q. one-number r r′ (both p q),
-    λ κ a r r′ e e′ p q. one-number r r′ (both p q),
-    λ κ a r r′ e e′ p q. one-number r r′ (both p q),
     λ κ a r r′ e e′ p q. blocked-read-one r r′ (both (p .0) (q .0)) (p .1) (q .1),
     λ κ a r r′ e e′ p q. (ap (λ (s : Sheet). s .table) (both p q), ap (λ (s : Sheet). s .answer) (both p q)),
   );

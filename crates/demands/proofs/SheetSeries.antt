@@ -17,7 +17,7 @@ use Rattle.hall.specs.declared.table.Table.{Table}
 use Rattle.hall.proofs.Kept.{call-refused, call-shaped}
 use Rattle.hall.proofs.Soundness.{sound-iff, fresh-sound, fresh-shaped}
 use Rattle.judge.specs.declared.verdict.Verdict.{Verdict}
-use Rattle.sheet.specs.Figures.{longestSheet}
+use Rattle.fields.specs.Figures.{longestSheet}
 use Rattle.sheet.specs.Written.{sheetOf}
 use Rattle.sheet.proofs.Examples.{empty}
 use Rattle.sheet.proofs.Theorems.{written-no-longer}

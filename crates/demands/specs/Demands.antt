@@ -24,7 +24,7 @@ use Rattle.text.specs.Text.{textWith}
 use Rattle.text.specs.Verdict.{verdictText}
 use Rattle.text.specs.declared.text.Text.{Text}
 use Rattle.sheet.specs.Answers.{sheetAnswers}
-use Rattle.sheet.specs.Figures.{longestSheet, settlingBytes}
+use Rattle.fields.specs.Figures.{longestSheet, settlingBytes}
 use Rattle.sheet.specs.Reader.{hands, sheetAt}
 use Rattle.sheet.specs.Written.{sheetOf}
 use Rattle.writer.specs.Writer.{wrote, laidOn, writeOf}

@@ -69,9 +69,13 @@ use Rattle.text.proofs.verdict.text_of.Reads as text·text-of
 use Rattle.text.proofs.densities.sheet_line.Reads as text·sheet-line
 use Rattle.text.proofs.densities.total_line.Reads as text·total-line
 use Rattle.text.proofs.densities.stopped_line.Reads as text·stopped-line
-use Rattle.sheet.proofs.number.plain.Reads as sheet·plain
-use Rattle.sheet.proofs.number.read.Reads as sheet·number
-use Rattle.sheet.proofs.number.rising.Reads as sheet·rising
+use Rattle.fields.proofs.number.plain.Reads as fields·plain
+use Rattle.fields.proofs.number.read.Reads as fields·number
+use Rattle.fields.proofs.number.rising.Reads as fields·rising
+use Rattle.fields.proofs.place.after.Reads as fields·after
+use Rattle.fields.proofs.place.next.Reads as fields·next
+use Rattle.fields.proofs.place.remaining.Reads as fields·remaining
+use Rattle.fields.proofs.place.ended.Reads as fields·ended
 use Rattle.sheet.proofs.reader.read_with_blocked.Reads as sheet·read-with-blocked
 use Rattle.sheet.proofs.reader.read.Reads as sheet·read
 use Rattle.sheet_file.proofs.counted.count.Reads as sheet-file·count
@@ -116,8 +120,10 @@ pub record OneAnswer : Type 1 where
   pub density : One density·density-of.Learnt × One density·awaited-twice.Learnt
   pub judge : One judge·task-route.Learnt × One judge·event-route.Learnt × One judge·judge.Learnt × One judge·verdict-of.Learnt × One judge·nobody.Learnt
   pub text : One text·text-of.Learnt × One text·sheet-line.Learnt × One text·total-line.Learnt × One text·stopped-line.Learnt
-  pub sheet : One sheet·plain.Learnt × One sheet·number.Learnt × One sheet·rising.Learnt
-      × OneLent {B = ℕ × ℕ} (λ κ e. (now (e .1 .0), now (e .1 .1 .0))) sheet·read-with-blocked.Learnt × OneLent (λ κ e. now (e .1 .0)) sheet·read.Learnt
+  pub fields : One fields·plain.Learnt × One fields·number.Learnt × One fields·rising.Learnt × One fields·after.Learnt × One fields·next.Learnt
+      × One fields·remaining.Learnt × One fields·ended.Learnt
+  pub sheet : OneLent {B = ℕ × ℕ} (λ κ e. (now (e .1 .0), now (e .1 .1 .0))) sheet·read-with-blocked.Learnt
+      × OneLent (λ κ e. now (e .1 .0)) sheet·read.Learnt
   pub sheet-file : One sheet-file·count.Learnt × One sheet-file·next-piece.Learnt × One sheet-file·wanted.Learnt × One sheet-file·none.Learnt
       × One sheet-file·with.Learnt × One sheet-file·done.Learnt
   pub writer : One writer·refused.Learnt × OneLent (λ κ e. now (e .1 .1 .0)) writer·call-and-write.Learnt

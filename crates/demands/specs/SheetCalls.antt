@@ -13,7 +13,7 @@ use Rattle.hall.specs.Table.{Shaped}
 use Rattle.hall.specs.declared.calls.Call.{Call}
 use Rattle.hall.specs.declared.calls.Called.{Called}
 use Rattle.hall.specs.declared.table.Table.{Table}
-use Rattle.sheet.specs.Figures.{longestSheet}
+use Rattle.fields.specs.Figures.{longestSheet}
 use Rattle.sheet.specs.Reader.{sheetAt}
 use Rattle.sheet.specs.Written.{sheetOf}
 use Rattle.writer.specs.Next.{HandedOver, handOn}

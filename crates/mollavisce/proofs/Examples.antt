@@ -23,11 +23,11 @@ use Rattle.judge.proofs.One.{routes-agree}
 use Rattle.sets.proofs.Masks.{maskOf}
 use Rattle.judge.proofs.Twins.{rowsOf, namedIn, ringIn, roundIn, judgeOf, judgeOf-judged}
 use Rattle.judge.specs.Routes.{largestRoute}
-use Rattle.sheet.specs.Got.{each}
+use Rattle.fields.specs.Got.{each}
 use Rattle.sheet.specs.Head.{openStep, opensAt, countAt, listsAt, headAt}
 use Rattle.sheet.specs.Entry.{phaseOn, eventAt, blockedAt, stateOn, countOn, entryOn, entryAt, membershipAt}
 use Rattle.sheet.specs.Reader.{memberStep, membersAt, taskStep, tasksAt, entriesAt, tableAt, sheetAt}
-use Rattle.sheet.specs.Number.{plainAt, numberAt, risingAt}
+use Rattle.fields.specs.Number.{plainAt, numberAt, risingAt}
 use Rattle.sheet.proofs.Examples.{p4}
 use Rattle.mollavisce.specs.Entry.{Entered}
 use Rattle.mollavisce.specs.Strip.{stripOf, stripAfter}

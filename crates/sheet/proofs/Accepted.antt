@@ -22,8 +22,8 @@ use Rattle.hall.proofs.Soundness.{getD-all}
 use Rattle.sheet.specs.declared.entry.Entry.{Entry}
 use Rattle.sheet.specs.declared.entry.Membership.{Membership}
 use Rattle.sheet.specs.declared.head.Head.{Head}
-use Rattle.sheet.specs.Number.{numberBytes}
-use Rattle.sheet.specs.Got.{Rising, rising, each}
+use Rattle.fields.specs.Number.{numberBytes}
+use Rattle.fields.specs.Got.{Rising, rising, each}
 use Rattle.sheet.specs.Head.{openStep, opensAt, countAt, listsAt, headAt}
 use Rattle.sheet.specs.Entry.{phaseOn, eventAt, blockedAt, stateOn, entryOf, countOn, entryOn, entryAt, membershipOf, membershipAt}
 use Rattle.sheet.specs.Reader.{memberStep, membersAt, taskStep, tasksAt, entriesAt, tableAt}

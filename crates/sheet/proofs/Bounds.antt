@@ -8,8 +8,8 @@ use lib.Dec.{leb, ltb}
 use borrow.Author.Tests.{leb-true, ltb-false}
 use Rattle.hall.specs.Effects.{withState}
 use Rattle.hall.specs.declared.table.Table.{Table}
-use Rattle.sheet.specs.Got.{Got, value, refused, Rising, rising, each}
-use Rattle.sheet.specs.Number.{plainAt, numberAt, risingAt}
+use Rattle.fields.specs.Got.{Got, value, refused, Rising, rising, each}
+use Rattle.fields.specs.Number.{plainAt, numberAt, risingAt}
 use Rattle.sheet.specs.Entry.{stateOn, entryOf, countOn, entryOn, entryAt}
 use Rattle.sheet.specs.Reader.{memberStep, membersAt, taskStep}
 use Rattle.sheet.proofs.Onward.{came}

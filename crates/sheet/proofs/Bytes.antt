@@ -10,7 +10,7 @@ use Rattle.hall.specs.Table.{openAt, stateAt, memberAt}
 use Rattle.states.specs.declared.state.State.{State}
 use Rattle.states.specs.declared.state.State.the-variants.{Free, Running, Blocked}
 use Rattle.hall.specs.declared.table.Table.{Table}
-use Rattle.sheet.specs.Number.{groupsOf, numberBytes}
+use Rattle.fields.specs.Number.{groupsOf, numberBytes}
 use Rattle.sheet.specs.Written.{count, gather, listed, stateBytes, memberBytes, taskBytes, liveAt, sheetOf}
 use Rattle.sheet.proofs.Numbers.{Bytes}
 

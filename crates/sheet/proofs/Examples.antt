@@ -9,8 +9,8 @@ use Rattle.states.specs.State.{event}
 use Rattle.hall.specs.Table.{stateAt, openAt, memberAt, phaseAt, freshTable}
 use Rattle.states.specs.declared.state.State.the-variants.{Blocked}
 use Rattle.hall.specs.declared.table.Table.{Table}
-use Rattle.sheet.specs.Got.{refused, each}
-use Rattle.sheet.specs.Number.{plainAt, numberAt, risingAt, numberBytes}
+use Rattle.fields.specs.Got.{refused, each}
+use Rattle.fields.specs.Number.{plainAt, numberAt, risingAt, numberBytes}
 use Rattle.sheet.specs.Head.{openStep, opensAt, countAt, listsAt, headAt}
 use Rattle.sheet.specs.Entry.{phaseOn, eventAt, blockedAt, stateOn, countOn, entryOn, entryAt, membershipAt}
 use Rattle.sheet.specs.Reader.{memberStep, membersAt, taskStep, tasksAt, entriesAt, tableAt, sheetAt}

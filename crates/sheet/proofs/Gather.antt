@@ -8,7 +8,7 @@ use native.Mathlib.Omega.{arith}
 use lib.ListN.{take}
 use lib.Dec.{leb}
 use borrow.Author.Tests.{leb-true, leb-false}
-use Rattle.sheet.specs.Number.{numberBytes}
+use Rattle.fields.specs.Number.{numberBytes}
 use Rattle.sheet.specs.Written.{count, gather, listed}
 
 pub count-le : (f : ℕ → Bool) (n : ℕ) → count f n ≤ n

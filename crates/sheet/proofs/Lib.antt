@@ -1,4 +1,3 @@
-mod Groups
 mod Onward
 mod Bounds
 mod Steps

@@ -18,8 +18,8 @@ use Rattle.states.specs.declared.state.Task.{Task}
 use Rattle.hall.proofs.Every.{every-all}
 use Rattle.hall.proofs.Places.{state-in, open-in, member-in, phase-in}
 use Rattle.hall.proofs.Soundness.{sound-iff}
-use Rattle.sheet.specs.Figures.{longestSheet}
-use Rattle.sheet.specs.Number.{numberBytes}
+use Rattle.fields.specs.Figures.{longestSheet}
+use Rattle.fields.specs.Number.{numberBytes}
 use Rattle.sheet.specs.Written.{count, gather, listed, stateBytes, memberBytes, taskBytes, liveAt, sheetOf}
 use Rattle.sheet.proofs.Numbers.{one-byte}
 

@@ -9,9 +9,9 @@ use lib.ListN.{length, getD, take, drop, length-drop}
 use lib.Seq.{take-suc, drop-drop, getD-drop}
 use lib.Dec.{eqb, ltb, leb}
 use borrow.Author.Tests.{eqb-false, ltb-true, ltb-false, leb-true, leb-false, lt-ltb, le-ltb, lt-leb, le-leb, ne-eqb}
-use Rattle.sheet.specs.Got.{value}
-use Rattle.sheet.specs.Figures.{further}
-use Rattle.sheet.specs.Number.{groupsAt, plainAt, numberAt, risingAt, groupsOf, numberBytes}
+use Rattle.fields.specs.Got.{value}
+use Rattle.fields.specs.Figures.{further}
+use Rattle.fields.specs.Number.{groupsAt, plainAt, numberAt, risingAt, groupsOf, numberBytes}
 use Rattle.sheet.proofs.Same.{Ok, fine, none, same-onward, same-if, same-weaker}
 
 -- what stands on a sheet are bytes

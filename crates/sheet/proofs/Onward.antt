@@ -2,13 +2,14 @@
 use Prim.Native.Nat.{ℕ, suc, _-_, _<_}
 use mathlib.Core.Path.{_≡_, refl, sym, ap, _∙_}
 use native.Mathlib.Omega.{arith}
-use Rattle.sheet.specs.Got.{Got, value, refused, onward, times, Rising, rising}
-use Rattle.sheet.specs.declared.number.Number.{Number}
-use Rattle.sheet.specs.declared.number.Number.the-variants.{Value, Refused as NoNumber}
-use Rattle.sheet.specs.declared.place.Place.{Place}
-use Rattle.sheet.specs.declared.place.Place.the-variants.{At, Refused}
-use Rattle.sheet.specs.Number.{outcome}
-use Rattle.sheet.specs.Parts.{placed, nextOf, remainingOf}
+use Rattle.fields.specs.Got.{Got, value, refused, onward, times, Rising, rising}
+use Rattle.fields.specs.declared.number.Number.{Number}
+use Rattle.fields.specs.declared.number.Number.the-variants.{Value, Refused as NoNumber}
+use Rattle.fields.specs.declared.place.Place.{Place}
+use Rattle.fields.specs.declared.place.Place.the-variants.{At, Refused}
+use Rattle.fields.specs.Number.{outcome}
+use Rattle.fields.specs.Parts.{nextOf, remainingOf}
+use Rattle.sheet.specs.Parts.{placed}
 
 -- what was read in the end was read from something
 pub record Came {A B : Type 0} (g : Got A) (k : A → ℕ → Got B) (b : B) (next : ℕ) : Type 0 where

@@ -6,7 +6,7 @@ use native.Mathlib.Omega.{arith}
 use lib.Dec.{T}
 use Rattle.answers.specs.Answers.{among}
 use Rattle.sheet.specs.Answers.{sheetRefusals}
-use Rattle.sheet.specs.Got.{Got, value, refused, onward, times}
+use Rattle.fields.specs.Got.{Got, value, refused, onward, times}
 
 pub data Agree {A : Type 0} (R : ℕ → Type 0) (Q : A → ℕ → Type 0) : Got A → Got A → Type 0 where
   fine : {a : A} {at : ℕ} → Q a at → Agree R Q (value a at) (value a at)

@@ -12,12 +12,13 @@ use Rattle.hall.specs.declared.table.Table.{Table}
 use Rattle.sheet.specs.declared.entry.Entry.{Entry}
 use Rattle.sheet.specs.declared.entry.Membership.{Membership}
 use Rattle.sheet.specs.declared.head.Head.{Head}
-use Rattle.sheet.specs.declared.place.Place.{Place}
-use Rattle.sheet.specs.declared.place.Place.the-variants.{At, Refused}
+use Rattle.fields.specs.declared.place.Place.{Place}
+use Rattle.fields.specs.declared.place.Place.the-variants.{At, Refused}
 use Rattle.answers.specs.Answers.{bytesAfter}
-use Rattle.sheet.specs.Got.{value, refused, onward, Rising, rising, each}
-use Rattle.sheet.specs.Parts.{placed, remainingOf, endedOf}
-use Rattle.sheet.specs.Number.{risingAt}
+use Rattle.fields.specs.Got.{value, refused, onward, Rising, rising, each}
+use Rattle.fields.specs.Parts.{remainingOf, endedOf}
+use Rattle.sheet.specs.Parts.{placed}
+use Rattle.fields.specs.Number.{risingAt}
 use Rattle.sheet.specs.Head.{openStep}
 use Rattle.sheet.specs.Entry.{entryAt, membershipAt}
 use Rattle.sheet.specs.Reader.{memberStep, membersAt, taskStep, noTasks, tasksAt, endedAt, entriesAt}

@@ -13,12 +13,12 @@ use Rattle.states.proofs.Truth.{and-left, and-right}
 use Rattle.hall.specs.Table.{Shaped, freshTable}
 use Rattle.hall.specs.Sound.{Sound}
 use Rattle.hall.specs.declared.table.Table.{Table}
-use Rattle.sheet.specs.declared.number.Number.{Number}
-use Rattle.sheet.specs.declared.number.Number.the-variants.{Value, Refused}
+use Rattle.fields.specs.declared.number.Number.{Number}
+use Rattle.fields.specs.declared.number.Number.the-variants.{Value, Refused}
 use Rattle.sheet.specs.Answers.{sheetRefusals, sheetAnswers}
-use Rattle.sheet.specs.Figures.{longestSheet, settlingBytes}
-use Rattle.sheet.specs.Got.{Got, value, refused}
-use Rattle.sheet.specs.Number.{outcome}
+use Rattle.fields.specs.Figures.{longestSheet, settlingBytes}
+use Rattle.fields.specs.Got.{Got, value, refused}
+use Rattle.fields.specs.Number.{outcome}
 use Rattle.sheet.specs.Reader.{tableAt, handed, sheetAt}
 use Rattle.sheet.specs.Written.{sheetOf}
 use Rattle.sheet.proofs.Same.{Agree, Same, fine, none, same-holds}

@@ -13,10 +13,10 @@ use Rattle.hall.specs.Table.{freshTable}
 use Rattle.hall.specs.declared.table.Table.{Table}
 use Rattle.states.specs.declared.state.Task.{Task}
 use Rattle.hall.proofs.Soundness.{getD-all}
-use Rattle.sheet.specs.declared.place.Place.{Place}
-use Rattle.sheet.specs.declared.place.Place.the-variants.{At, Refused}
+use Rattle.fields.specs.declared.place.Place.{Place}
+use Rattle.fields.specs.declared.place.Place.the-variants.{At, Refused}
 use Rattle.sheet.specs.Parts.{placed, risenOf}
-use Rattle.sheet.specs.Got.{rising}
+use Rattle.fields.specs.Got.{rising}
 use Rattle.sheet.specs.Reader.{taskStep}
 use Rattle.sheet.proofs.Bounds.{task-rises}
 

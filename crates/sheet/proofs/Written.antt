@@ -17,8 +17,8 @@ use Rattle.hall.specs.declared.table.Table.{Table}
 use Rattle.states.proofs.Truth.{clash}
 use Rattle.hall.proofs.Places.{state-in, open-in, member-in, phase-in, open-below}
 use Rattle.hall.proofs.Soundness.{getD-all}
-use Rattle.sheet.specs.Got.{Got, value, refused, onward, times, Rising, rising, each}
-use Rattle.sheet.specs.Number.{numberAt, numberBytes}
+use Rattle.fields.specs.Got.{Got, value, refused, onward, times, Rising, rising, each}
+use Rattle.fields.specs.Number.{numberAt, numberBytes}
 use Rattle.sheet.specs.Head.{openStep, opensAt, countAt, listsAt, headAt}
 use Rattle.sheet.specs.Entry.{phaseOn, eventAt, blockedAt, stateOn, countOn, entryOn, entryAt, membershipAt}
 use Rattle.sheet.specs.Reader.{memberStep, membersAt, taskStep, noTasks, tasksAt, entriesAt, tableAt}

@@ -11,8 +11,8 @@ use Rattle.states.specs.declared.state.State.the-variants.{Running, Blocked}
 use Rattle.sheet.specs.declared.entry.Entry.{Entry}
 use Rattle.sheet.specs.declared.entry.Membership.{Membership}
 use Rattle.answers.specs.Answers.{unknown, notOpen}
-use Rattle.sheet.specs.Got.{Got, value, refused, onward}
-use Rattle.sheet.specs.Number.{plainAt, numberAt, risingAt}
+use Rattle.fields.specs.Got.{Got, value, refused, onward}
+use Rattle.fields.specs.Number.{plainAt, numberAt, risingAt}
 
 -- "the phaser and phase", the phaser open
 unfoldable pub phaseOn : List ℕ → ℕ → ℕ → Got Event

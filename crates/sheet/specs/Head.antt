@@ -6,8 +6,8 @@ use lib.Dec.{eqb}
 use lib.ListN.{set, replicate}
 use Rattle.sheet.specs.declared.head.Head.{Head}
 use Rattle.answers.specs.Answers.{unknown}
-use Rattle.sheet.specs.Got.{Got, value, refused, onward, Rising, rising, each}
-use Rattle.sheet.specs.Number.{plainAt, numberAt, risingAt}
+use Rattle.fields.specs.Got.{Got, value, refused, onward, Rising, rising, each}
+use Rattle.fields.specs.Number.{plainAt, numberAt, risingAt}
 
 -- "how many open phasers (up to 16) and their numbers, rising"
 unfoldable pub openStep : List ℕ → Rising (List Bool) → ℕ → Got (Rising (List Bool))

@@ -1,7 +1,4 @@
 pub mod Answers
-pub mod Figures
-pub mod Got
-pub mod Number
 pub mod Parts
 pub mod Head
 pub mod Entry

@@ -12,7 +12,7 @@ use Rattle.sheet.specs.declared.entry.Entry.{Entry}
 use Rattle.sheet.specs.declared.head.Head.{Head}
 use Rattle.answers.specs.Answers.{bytesAfter}
 use Rattle.sheet.specs.Entry.{entryAt, membershipAt}
-use Rattle.sheet.specs.Got.{Got, value, refused, onward, Rising, rising, each}
+use Rattle.fields.specs.Got.{Got, value, refused, onward, Rising, rising, each}
 use Rattle.sheet.specs.Head.{headAt}
 
 -- "each .., rising by phaser"

@@ -7,7 +7,7 @@ use Rattle.states.specs.State.{isLive}
 use Rattle.states.specs.declared.state.State.{State}
 use Rattle.states.specs.declared.state.State.the-variants.{Free, Running, Blocked}
 use Rattle.hall.specs.declared.table.Table.{Table}
-use Rattle.sheet.specs.Number.{numberBytes}
+use Rattle.fields.specs.Number.{numberBytes}
 
 -- how many of the numbers below n are there
 abbrev pub count : (ℕ → Bool) → ℕ → ℕ

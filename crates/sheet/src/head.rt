@@ -2,14 +2,14 @@
 ghost use mathlib.Core.Path.{_≡_};
 ghost use mathlib.Core.Bool.{false};
 ghost use lib.ListN.{replicate};
-ghost use Rattle.sheet.specs.Got.{each};
+ghost use Rattle.fields.specs.Got.{each};
 ghost use Rattle.sheet.specs.Parts.{placed};
 ghost use Rattle.sheet.specs.Head.{openStep, opensAt, countAt, listsAt, headAt};
-use crate::number;
-use crate::number::Number;
-use crate::place::Place;
-use crate::place::after;
 use answers::UNKNOWN;
+use fields::number;
+use fields::number::Number;
+use fields::place::Place;
+use fields::place::after;
 
 // The open phasers.
 pub struct ReadOpens {

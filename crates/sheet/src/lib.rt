@@ -1,7 +1,4 @@
-// The hall sheet: its figures, its numbers, and its reader.
+// The reader of the hall sheet.
 mod entry;
-pub mod figures;
 mod head;
-pub mod number;
-mod place;
 pub mod reader;

@@ -1,18 +1,18 @@
 // The reader of a hall sheet. Head and entry are small values; only `entries` holds the table.
 ghost use mathlib.Core.Path.{_≡_};
+ghost use Prim.Native.Nat.{_≤_};
 ghost use Rattle.hall.specs.Parts.{BlockedSet};
-ghost use Rattle.sheet.specs.Got.{onward};
-ghost use Rattle.sheet.specs.Parts.{placed};
+ghost use Rattle.fields.specs.Got.{onward};
+ghost use Rattle.sheet.specs.Parts.{placed, risenOf};
 ghost use Rattle.sheet.specs.Reader.{noTasks, entriesAt, hands, handed, sheetAt};
 use crate::entry::entry_at;
 use crate::entry::membership_at;
 use crate::head::ReadHead;
 use crate::head::head_at;
-use crate::place::Place;
-use crate::place::ended;
-use crate::place::next;
-use crate::place::remaining;
-use crate::place::risen;
+use fields::place::Place;
+use fields::place::ended;
+use fields::place::next;
+use fields::place::remaining;
 use hall::table::Table;
 use states::state::Phase;
 use states::state::State;
@@ -28,6 +28,17 @@ fn no_tasks(opened: [bool; 16]) -> Table
         opened,
         phases: [Phase(0); 512],
         members: [false; 512],
+    }
+}
+
+// The least number that rises after a task's: after a refusal none does.
+fn risen(place: Place, number: u64) -> u64
+    requires { ⌜ number ≤ 31 ⌝ }
+    ensures { λ r. ⌜ r ≡ risenOf place number ⌝ }
+{
+    match place {
+        Place::At(_) => number + 1,
+        Place::Refused(_) => 32,
     }
 }
 

@@ -11,8 +11,8 @@ use lib.Dec.{eqb}
 use lib.ListN.{length, length-append}
 use borrow.Author.Tests.{ne-eqb, le-leb, eqb-true}
 use Rattle.answers.specs.Answers.{endsInside}
-use Rattle.sheet.specs.Got.{Got, value, refused}
-use Rattle.sheet.specs.Number.{plainAt, numberAt}
+use Rattle.fields.specs.Got.{Got, value, refused}
+use Rattle.fields.specs.Number.{plainAt, numberAt}
 use Rattle.sheet.proofs.Numbers.{Bytes}
 use Rattle.sheet_file.specs.Piece.{largestLength, afterLength, pieceOf}
 use Rattle.sheet_file.specs.Parts.{largestPiece, wantedAfter, wantedOf}

@@ -1,7 +1,7 @@
 -- What comes next in small files, and at the figures' edges.
 use mathlib.Core.Path.{_≡_, refl}
 use mathlib.Core.List.{List, [], _∷_}
-use Rattle.sheet.specs.Number.{plainAt, numberAt}
+use Rattle.fields.specs.Number.{plainAt, numberAt}
 use Rattle.sheet_file.specs.Piece.{pieceOf}
 use Rattle.sheet_file.specs.declared.piece.Piece.{Piece}
 use Rattle.sheet_file.specs.declared.piece.Piece.the-variants.{Sheet, Stopped, Ended}

@@ -10,9 +10,9 @@ use lib.Dec.{eqb, leb, ltb}
 use lib.ListN.{getD, length, length-append, List·getD-append}
 use borrow.Author.Tests.{lt-leb, leb-true, leb-false}
 use Rattle.answers.specs.Answers.{endsInside, needlessGroup, tooLarge}
-use Rattle.sheet.specs.Figures.{further}
-use Rattle.sheet.specs.Got.{Got, value, refused, onward}
-use Rattle.sheet.specs.Number.{carried, groupsAt, plainAt, numberAt}
+use Rattle.fields.specs.Figures.{further}
+use Rattle.fields.specs.Got.{Got, value, refused, onward}
+use Rattle.fields.specs.Number.{carried, groupsAt, plainAt, numberAt}
 
 -- a byte of the part stands in the whole too
 inside : (part rest : List ℕ) (at : ℕ) → leb (length part) at ≡ false

@@ -8,9 +8,9 @@ use lib.Dec.{eqb, leb}
 use lib.ListN.{length}
 use borrow.Author.Tests.{eq-eqb, ne-eqb, le-leb, lt-leb, leb-true, leb-false}
 use Rattle.answers.specs.Answers.{endsInside, bytesAfter}
-use Rattle.sheet.specs.Figures.{further}
-use Rattle.sheet.specs.Got.{Got, value, refused}
-use Rattle.sheet.specs.Number.{numberAt}
+use Rattle.fields.specs.Figures.{further}
+use Rattle.fields.specs.Got.{Got, value, refused}
+use Rattle.fields.specs.Number.{numberAt}
 use Rattle.sheet.proofs.Same.{same-holds}
 use Rattle.sheet.proofs.Numbers.{Bytes, number-ok}
 use Rattle.sheet_file.specs.Parts.{wantedOf}

@@ -5,8 +5,8 @@ use Prim.Native.Nat.{ℕ, _+_}
 use lib.Dec.{eqb, leb}
 use lib.ListN.{length}
 use Rattle.answers.specs.Answers.{endsInside, bytesAfter}
-use Rattle.sheet.specs.Got.{Got, value, refused}
-use Rattle.sheet.specs.Number.{numberAt}
+use Rattle.fields.specs.Got.{Got, value, refused}
+use Rattle.fields.specs.Number.{numberAt}
 use Rattle.sheet_file.specs.declared.piece.Piece.{Piece}
 use Rattle.sheet_file.specs.declared.piece.Piece.the-variants.{Sheet, Stopped, Ended}
 

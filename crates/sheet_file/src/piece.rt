@@ -6,8 +6,8 @@ ghost use Prim.Native.Nat.{_≤_};
 ghost use lib.ListN.{length};
 use answers::BYTES_AFTER;
 use answers::ENDS_INSIDE;
-use sheet::number::Number;
-use sheet::number::read;
+use fields::number::Number;
+use fields::number::read;
 
 // "A length is at most 4,096"
 pub const LARGEST_LENGTH: u64 = 4_096;

@@ -1,6 +1,6 @@
 // Reads a sheet from standard input, judges it by route 0 and prints the verdict: the answer and, if that is 0, the named tasks and the ring.
 use demands::sheets::text_of;
-use sheet::figures::SETTLING_BYTES;
+use fields::figures::SETTLING_BYTES;
 ghost use Rattle.io.specs.Counts.{Counts};
 
 // How many bytes were read, up to the input's end or as far as there is room for them, and whether a read failed.

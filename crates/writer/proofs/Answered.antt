@@ -11,7 +11,7 @@ use Rattle.hall.specs.Parts.{soundOf}
 use Rattle.hall.specs.Table.{Shaped}
 use Rattle.hall.specs.declared.table.Table.{Table}
 use Rattle.hall.proofs.Soundness.{sound-iff}
-use Rattle.sheet.specs.Figures.{longestSheet}
+use Rattle.fields.specs.Figures.{longestSheet}
 use Rattle.sheet.specs.Written.{sheetOf}
 use Rattle.sheet.proofs.Theorems.{written-no-longer}
 use Rattle.writer.specs.Parts.{Laid}

@@ -11,7 +11,7 @@ use borrow.Author.Tests.{lt-ltb, le-ltb}
 use Rattle.states.specs.declared.state.State.{State}
 use Rattle.states.specs.declared.state.State.the-variants.{Free, Running, Blocked}
 use Rattle.sheet.specs.Written.{stateBytes}
-use Rattle.sheet.specs.Number.{groupsOf, numberBytes}
+use Rattle.fields.specs.Number.{groupsOf, numberBytes}
 use Rattle.writer.specs.Parts.{stored, laidFrom, Laid}
 use Rattle.writer.proofs.Laying.{length-stored, laid-ready}
 

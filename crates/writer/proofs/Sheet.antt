@@ -10,7 +10,7 @@ use Rattle.states.specs.declared.state.State.{State}
 use Rattle.hall.specs.Table.{stateAt, openAt, memberAt, phaseAt}
 use Rattle.hall.specs.declared.table.Table.{Table}
 use Rattle.hall.proofs.Places.{state-in, open-in, member-in, phase-in}
-use Rattle.sheet.specs.Number.{numberBytes}
+use Rattle.fields.specs.Number.{numberBytes}
 use Rattle.sheet.specs.Written.{count, gather, listed, stateBytes, memberBytes, taskBytes, liveAt, sheetOf}
 use Rattle.sheet.proofs.Gather.{count-same, listed-same}
 use Rattle.writer.specs.Parts.{Laid, flagged, liveIn, ifThere, entryBytes, headBytes, rowEnd}

@@ -16,7 +16,7 @@ use Rattle.hall.specs.Sound.{Sound}
 use Rattle.hall.specs.Table.{Shaped}
 use Rattle.hall.specs.declared.table.Table.{Table}
 use Rattle.hall.proofs.Soundness.{sound-iff}
-use Rattle.sheet.specs.Figures.{longestSheet}
+use Rattle.fields.specs.Figures.{longestSheet}
 use Rattle.sheet.specs.Reader.{hands, sheetAt}
 use Rattle.sheet.specs.Written.{sheetOf}
 use Rattle.sheet.proofs.Numbers.{Bytes}

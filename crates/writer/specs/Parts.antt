@@ -8,7 +8,7 @@ use lib.ListN.{length, set, getD}
 use Rattle.states.specs.State.{isLive, freeTask}
 use Rattle.states.specs.declared.state.State.{State}
 use Rattle.states.specs.declared.state.Task.{Task}
-use Rattle.sheet.specs.Number.{numberBytes}
+use Rattle.fields.specs.Number.{numberBytes}
 use Rattle.sheet.specs.Written.{stateBytes, listed}
 
 -- a byte stored where there is room for it: that is, below `room`

@@ -3,7 +3,7 @@ ghost use mathlib.Core.Path.{_≡_};
 ghost use mathlib.Core.List.{_++_};
 ghost use Prim.Native.Nat.{_≤_};
 ghost use lib.ListN.{length};
-ghost use Rattle.sheet.specs.Number.{numberBytes};
+ghost use Rattle.fields.specs.Number.{numberBytes};
 ghost use Rattle.sheet.specs.Written.{stateBytes};
 ghost use Rattle.writer.specs.Parts.{Laid, ifThere, entryBytes, rowEnd};
 use crate::number::put;

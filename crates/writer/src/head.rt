@@ -1,7 +1,7 @@
 // What stands before the first task (document 01, "Fields"), laid into a buffer: version, open phasers, how many tasks.
 ghost use Prim.Native.Nat.{_≤_};
 ghost use lib.ListN.{length};
-ghost use Rattle.sheet.specs.Number.{numberBytes};
+ghost use Rattle.fields.specs.Number.{numberBytes};
 ghost use Rattle.writer.specs.Parts.{Laid, flagged, ifThere, headBytes};
 use crate::counts::count_of;
 use crate::number::put;

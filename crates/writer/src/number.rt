@@ -3,7 +3,7 @@ ghost use mathlib.Core.Path.{_≡_};
 ghost use mathlib.Core.Bool.{true};
 ghost use Prim.Native.Nat.{_<_, _≤_};
 ghost use lib.ListN.{length};
-ghost use Rattle.sheet.specs.Number.{numberBytes};
+ghost use Rattle.fields.specs.Number.{numberBytes};
 ghost use Rattle.writer.specs.Parts.{stored, Laid};
 
 // Where it is near, there is room for it whatever its place: so a loop tests that once, and not at each byte.

@@ -17,8 +17,8 @@ use crate::head::put_head;
 use answers::DONE;
 use answers::NOT_SOUND;
 use answers::SHORT_BUFFER;
+use fields::figures::LONGEST_SHEET;
 use hall::table::Table;
-use sheet::figures::LONGEST_SHEET;
 
 pub struct Written {
     pub answer: u32,

@@ -7,10 +7,10 @@ use native.Mathlib.Omega.{arith}
 use lib.ListN.{getD}
 use Rattle.answers.specs.Answers.{notOpen}
 use Rattle.sheet.specs.Entry.{phaseOn, eventAt}
-use Rattle.sheet.specs.Got.{value, refused}
-use Rattle.sheet.specs.Number.{risingAt}
+use Rattle.fields.specs.Got.{value, refused}
+use Rattle.fields.specs.Number.{risingAt}
 use Rattle.sheet.specs.Parts.{placed}
-use Rattle.sheet.specs.declared.place.Place.{Place}
+use Rattle.fields.specs.declared.place.Place.{Place}
 use Rattle.sheet.proofs.Onward.{number-read}
 use Rattle.sheet.proofs.Bounds.{rising-within}
 use Rattle.sheet.proofs.entry.event_at.Statement.{statement}

@@ -8,8 +8,8 @@ use borrow.Author.Tests.{eq-eqb, ne-eqb}
 use Rattle.states.specs.declared.state.State.the-variants.{Running}
 use Rattle.answers.specs.Answers.{unknown}
 use Rattle.sheet.specs.Entry.{blockedAt, stateOn}
-use Rattle.sheet.specs.Got.{value, refused}
-use Rattle.sheet.specs.Number.{plainAt}
+use Rattle.fields.specs.Got.{value, refused}
+use Rattle.fields.specs.Number.{plainAt}
 use Rattle.sheet.proofs.Onward.{number-read}
 use Rattle.sheet.proofs.entry.state_on.Statement.{statement}
 use Rattle.sheet.proofs.entry.state_on.Tie as tie

@@ -6,10 +6,10 @@ use borrow.Author.Needs.{needs}
 use borrow.Author.Tests.{eq-eqb, ne-eqb}
 use Rattle.answers.specs.Answers.{unknown}
 use Rattle.sheet.specs.Head.{listsAt, headAt}
-use Rattle.sheet.specs.Got.{value, refused}
-use Rattle.sheet.specs.Number.{plainAt}
+use Rattle.fields.specs.Got.{value, refused}
+use Rattle.fields.specs.Number.{plainAt}
 use Rattle.sheet.specs.Parts.{placed}
-use Rattle.sheet.specs.declared.place.Place.{Place}
+use Rattle.fields.specs.declared.place.Place.{Place}
 use Rattle.sheet.proofs.Onward.{number-read}
 use Rattle.sheet.proofs.head.head_at.Statement.{statement}
 use Rattle.sheet.proofs.head.head_at.Tie as tie

@@ -4,9 +4,9 @@ use native.Mathlib.Omega.{arith}
 use mathlib.Core.Path.{_≡_, refl, _∙_}
 use mathlib.Core.Bool.{false}
 use lib.ListN.{replicate}
-use Rattle.sheet.specs.Got.{value, rising, each}
+use Rattle.fields.specs.Got.{value, rising, each}
 use Rattle.sheet.specs.Head.{openStep}
-use Rattle.sheet.specs.Number.{risingAt}
+use Rattle.fields.specs.Number.{risingAt}
 use Rattle.sheet.proofs.Onward.{number-read, number-refused, going, going-turn, going-refused, going-end}
 use Rattle.sheet.proofs.Bounds.{rising-within}
 use Rattle.sheet.proofs.Steps.{open-read, open-refused}

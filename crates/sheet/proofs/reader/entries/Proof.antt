@@ -6,10 +6,11 @@ use mathlib.Core.Path.{_≡_, refl, sym, ap, _∙_}
 use Prim.Native.Nat.{_+_, _-_, _≤_}
 use Rattle.hall.specs.Effects.{withState, withEntry}
 use Rattle.hall.specs.Parts.{BlockedSet}
-use Rattle.sheet.specs.Parts.{placed, nextOf, remainingOf, risenOf}
-use Rattle.sheet.specs.Got.{onward, rising}
+use Rattle.fields.specs.Parts.{nextOf, remainingOf}
+use Rattle.sheet.specs.Parts.{placed, risenOf}
+use Rattle.fields.specs.Got.{onward, rising}
 use Rattle.sheet.specs.Reader.{memberStep, taskStep, noTasks, entriesAt, hands, handed}
-use Rattle.sheet.specs.declared.place.Place.{Place}
+use Rattle.fields.specs.declared.place.Place.{Place}
 use Rattle.sheet.proofs.Marks.{nobody-blocked, mark-one}
 use Rattle.sheet.proofs.Onward.{gone, gone-start, gone-turn, gone-end, remaining-settled, remaining-less}
 use Rattle.sheet.proofs.Steps.{member-made, task-made, entries-made}

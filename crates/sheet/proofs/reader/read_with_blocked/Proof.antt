@@ -1,6 +1,6 @@
 use borrow.Author.Needs.{needs}
 use mathlib.Core.Path.{ap, _∙_}
-use Rattle.sheet.specs.Got.{onward}
+use Rattle.fields.specs.Got.{onward}
 use Rattle.sheet.specs.Reader.{sheetAt, tableAt, entriesAt, handed}
 use Rattle.sheet.proofs.reader.read_with_blocked.Statement.{statement}
 use Rattle.sheet.proofs.reader.read_with_blocked.Tie as tie

@@ -2,8 +2,8 @@ use mathlib.Core.Path.{_≡_, ap, sym, _∙_}
 use Prim.Native.Nat.{_≤_}
 use native.Mathlib.Omega.{arith}
 use borrow.Author.Needs.{needs}
-use Rattle.sheet.specs.Got.{value}
-use Rattle.sheet.specs.Number.{outcome, numberAt}
+use Rattle.fields.specs.Got.{value}
+use Rattle.fields.specs.Number.{outcome, numberAt}
 use Rattle.sheet_file.specs.Piece.{largestLength}
 use Rattle.sheet_file.proofs.Pieces.{length-read, piece-ended, piece-over, piece-refused, piece-sheet, piece-past}
 use Rattle.sheet_file.proofs.piece.next_piece.Statement.{statement}

@@ -3,8 +3,8 @@ use mathlib.Core.Path.{_≡_, ap, sym, _∙_}
 use Prim.Native.Nat.{_≤_}
 use native.Mathlib.Omega.{arith}
 use borrow.Author.Needs.{needs}
-use Rattle.sheet.specs.Got.{value, refused}
-use Rattle.sheet.specs.Number.{outcome, numberAt}
+use Rattle.fields.specs.Got.{value, refused}
+use Rattle.fields.specs.Number.{outcome, numberAt}
 use Rattle.sheet_file.specs.Piece.{largestLength}
 use Rattle.sheet_file.proofs.Enough.{wanted-value, wanted-more, wanted-all, wanted-told}
 use Rattle.sheet_file.proofs.Pieces.{length-read}

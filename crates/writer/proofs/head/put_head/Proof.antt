@@ -3,7 +3,7 @@ use mathlib.Core.Bool.{false}
 use Prim.Native.Nat.{_+_, _*_, _-_, _≤_}
 use native.Mathlib.Omega.{arith}
 use lib.ListN.{length, getD}
-use Rattle.sheet.specs.Number.{numberBytes}
+use Rattle.fields.specs.Number.{numberBytes}
 use Rattle.sheet.specs.Written.{gather}
 use Rattle.writer.specs.Parts.{Laid, flagged}
 use Rattle.writer.proofs.Laying.{laid-none, laid-both, laid-long}

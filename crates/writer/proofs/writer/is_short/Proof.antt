@@ -4,7 +4,7 @@ use native.Mathlib.Omega.{arith}
 use lib.ListN.{length}
 use borrow.Author.Tests.{le-ltb, lt-ltb, le-leb, ltb-true, leb-true}
 use Rattle.states.proofs.Truth.{same-test}
-use Rattle.sheet.specs.Figures.{longestSheet}
+use Rattle.fields.specs.Figures.{longestSheet}
 use Rattle.sheet.specs.Written.{sheetOf}
 use Rattle.writer.proofs.Laying.{laid-nowhere}
 use Rattle.writer.proofs.Answered.{long-enough}

@@ -2,9 +2,9 @@ use borrow.Author.Needs.{needs}
 use native.Mathlib.Omega.{arith}
 use Prim.Native.Nat.{ℕ}
 use borrow.Author.Tests.{lt-leb, le-leb}
-use Rattle.sheet.specs.Number.{numberAt}
-use Rattle.sheet.proofs.number.read.Statement.{statement}
-use Rattle.sheet.proofs.number.read.Tie as tie
+use Rattle.fields.specs.Number.{numberAt}
+use Rattle.fields.proofs.number.read.Statement.{statement}
+use Rattle.fields.proofs.number.read.Tie as tie
 
 plain-requires : tie.Need-plain-requires
 plain-requires c κs = search needs

@@ -4,12 +4,12 @@ use native.Mathlib.Omega.{arith}
 use mathlib.Core.List.{List}
 use mathlib.Core.Path.{_≡_, _∙_}
 use Prim.Native.Nat.{ℕ, _-_, _*_, _^_, _≤_, _<_}
-use Rattle.sheet.specs.Figures.{further}
-use Rattle.sheet.specs.Number.{carried, groupsAt}
-use Rattle.sheet.proofs.Groups.{over, over-start, over-ends, over-zero, over-last, over-turn, over-many}
-use Rattle.sheet.proofs.Groups.{Below, below-start, weight-small, product-small, below-turn}
-use Rattle.sheet.proofs.number.more.Statement.{statement}
-use Rattle.sheet.proofs.number.more.Tie as tie
+use Rattle.fields.specs.Figures.{further}
+use Rattle.fields.specs.Number.{carried, groupsAt}
+use Rattle.fields.proofs.Groups.{over, over-start, over-ends, over-zero, over-last, over-turn, over-many}
+use Rattle.fields.proofs.Groups.{Below, below-start, weight-small, product-small, below-turn}
+use Rattle.fields.proofs.number.more.Statement.{statement}
+use Rattle.fields.proofs.number.more.Tie as tie
 
 abbrev Inv-loop : tie.InvT-loop
 Inv-loop sheet low at value₀ weight₀ next₀ left₀ value weight next left =

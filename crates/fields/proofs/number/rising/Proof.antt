@@ -2,9 +2,9 @@ use borrow.Author.Needs.{needs}
 use native.Mathlib.Omega.{arith}
 use Prim.Native.Nat.{ℕ}
 use borrow.Author.Tests.{lt-ltb, le-ltb}
-use Rattle.sheet.specs.Number.{risingAt}
-use Rattle.sheet.proofs.number.rising.Statement.{statement}
-use Rattle.sheet.proofs.number.rising.Tie as tie
+use Rattle.fields.specs.Number.{risingAt}
+use Rattle.fields.proofs.number.rising.Statement.{statement}
+use Rattle.fields.proofs.number.rising.Tie as tie
 
 read-requires : tie.Need-read-requires
 read-requires c κs = search needs

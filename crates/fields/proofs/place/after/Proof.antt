@@ -1,6 +1,6 @@
 use borrow.Author.Needs.{needs}
-use Rattle.sheet.proofs.place.after.Statement.{statement}
-use Rattle.sheet.proofs.place.after.Tie as tie
+use Rattle.fields.proofs.place.after.Statement.{statement}
+use Rattle.fields.proofs.place.after.Tie as tie
 
 enum-known-number : tie.Need-enum-known-number
 enum-known-number c = search needs

@@ -9,9 +9,9 @@ use lib.Dec.{eqb}
 use lib.ListN.{length, getD}
 use borrow.Author.Tests.{eqb-false, ne-eqb, lt-ltb, le-ltb, lt-leb, le-leb}
 use Rattle.answers.specs.Answers.{endsInside, needlessGroup, tooLarge}
-use Rattle.sheet.specs.Got.{Got, value, refused, onward}
-use Rattle.sheet.specs.Figures.{further}
-use Rattle.sheet.specs.Number.{carried, groupsAt}
+use Rattle.fields.specs.Got.{Got, value, refused, onward}
+use Rattle.fields.specs.Figures.{further}
+use Rattle.fields.specs.Number.{carried, groupsAt}
 
 abbrev pub over : ℕ → ℕ → Got ℕ → Got ℕ
 over low weight g = onward g (λ high next. cond (eqb high 0) (refused needlessGroup) (value (low + high * weight) next))

@@ -5,10 +5,10 @@ use Prim.Native.Nat.{ℕ, zero, suc, _+_, _-_, _*_, _/_, _%_}
 use lib.Dec.{ltb, leb, eqb}
 use lib.ListN.{length, getD}
 use Rattle.answers.specs.Answers.{endsInside, needlessGroup, tooLarge, notRising}
-use Rattle.sheet.specs.declared.number.Number.{Number}
-use Rattle.sheet.specs.declared.number.Number.the-variants.{Value, Refused}
-use Rattle.sheet.specs.Figures.{further}
-use Rattle.sheet.specs.Got.{Got, value, refused, onward}
+use Rattle.fields.specs.declared.number.Number.{Number}
+use Rattle.fields.specs.declared.number.Number.the-variants.{Value, Refused}
+use Rattle.fields.specs.Figures.{further}
+use Rattle.fields.specs.Got.{Got, value, refused, onward}
 
 -- "Reading a number answers either its value and the next place, or its refusal": the two cases of the code's enum
 abbrev pub outcome : Number → Got ℕ

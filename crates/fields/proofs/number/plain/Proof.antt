@@ -1,9 +1,9 @@
 use borrow.Author.Needs.{needs}
 use native.Mathlib.Omega.{arith}
 use borrow.Author.Tests.{lt-ltb, le-ltb, lt-leb, le-leb}
-use Rattle.sheet.specs.Number.{plainAt}
-use Rattle.sheet.proofs.number.plain.Statement.{statement}
-use Rattle.sheet.proofs.number.plain.Tie as tie
+use Rattle.fields.specs.Number.{plainAt}
+use Rattle.fields.proofs.number.plain.Statement.{statement}
+use Rattle.fields.proofs.number.plain.Tie as tie
 
 returns : tie.Need-returns
 unfolding plainAt

@@ -6,11 +6,11 @@ use borrow.Author.Needs.{needs}
 use borrow.Author.Tests.{lt-ltb, le-ltb}
 use lib.ListN.{length}
 use Rattle.answers.specs.Answers.{bytesAfter}
-use Rattle.sheet.specs.Parts.{endedOf}
-use Rattle.sheet.specs.declared.place.Place.{Place}
-use Rattle.sheet.specs.declared.place.Place.the-variants.{At, Refused}
-use Rattle.sheet.proofs.place.ended.Statement.{statement}
-use Rattle.sheet.proofs.place.ended.Tie as tie
+use Rattle.fields.specs.Parts.{endedOf}
+use Rattle.fields.specs.declared.place.Place.{Place}
+use Rattle.fields.specs.declared.place.Place.the-variants.{At, Refused}
+use Rattle.fields.proofs.place.ended.Statement.{statement}
+use Rattle.fields.proofs.place.ended.Tie as tie
 
 enum-known-place : tie.Need-enum-known-place
 enum-known-place c = search needs

@@ -1,6 +1,6 @@
 // Document 01's figures of the hall sheet.
 ghost use mathlib.Core.Path.{_≡_};
-ghost use Rattle.sheet.specs.Figures.{longestSheet, settlingBytes};
+ghost use Rattle.fields.specs.Figures.{longestSheet, settlingBytes};
 
 // "The longest sheet has 2,291 bytes."
 pub const LONGEST_SHEET: usize = 2_291;

@@ -1,7 +1,7 @@
 use borrow.Author.Needs.{needs}
 use native.Mathlib.Omega.{arith}
-use Rattle.sheet.proofs.place.risen.Statement.{statement}
-use Rattle.sheet.proofs.place.risen.Tie as tie
+use Rattle.sheet.proofs.reader.risen.Statement.{statement}
+use Rattle.sheet.proofs.reader.risen.Tie as tie
 
 enum-told : tie.Need-enum-told
 enum-told c = search needs

@@ -1,8 +1,8 @@
 // A number of the hall sheet: groups of seven bits, low group first.
 ghost use mathlib.Core.Path.{_≡_};
 ghost use Prim.Native.Nat.{_<_};
-ghost use Rattle.sheet.specs.Figures.{further};
-ghost use Rattle.sheet.specs.Number.{outcome, carried, groupsAt, plainAt, numberAt, risingAt};
+ghost use Rattle.fields.specs.Figures.{further};
+ghost use Rattle.fields.specs.Number.{outcome, carried, groupsAt, plainAt, numberAt, risingAt};
 use crate::figures::FURTHER;
 use answers::ENDS_INSIDE;
 use answers::NEEDLESS_GROUP;

@@ -1,0 +1,4 @@
+pub mod Figures
+pub mod Got
+pub mod Number
+pub mod Parts
