@@ -10,6 +10,7 @@ use Rattle.deadlock.specs.Ring.{Next}
 use Rattle.deadlock.specs.Walk.{Row}
 use Rattle.deadlock.proofs.One.{named-one, ring-in-one}
 use Rattle.states.specs.declared.state.Task.{Task}
+use Rattle.seating.proofs.One.{seats-in-one, blocked-in-one, rows-in-one}
 use Rattle.hall.specs.Parts.{BlockedSet}
 use Rattle.hall.specs.declared.table.Table.{Table}
 use Rattle.hall.proofs.One.{blocked-one, edges-one, seats-one}
@@ -100,6 +101,11 @@ one-answer = record {
     λ κ a r r′ e e′. both,
     λ κ a r r′ e e′. both,
   );
+  seating = (
+    λ κ a r r′ e e′. seats-in-one (a .0) (a .1 .0) (a .1 .1 .0) r r′,
+    λ κ a r r′ e e′. blocked-in-one (a .0) r r′,
+    λ κ a r r′ e e′. rows-in-one (a .0) (a .1 .0) (a .1 .1 .0) r r′,
+  );
   hall = (
     λ κ a r r′ e e′. both,
     λ κ a r r′ e e′ p q. both (p .0) (q .0),
@@ -107,10 +113,10 @@ one-answer = record {
     λ κ a r r′ e e′. both,
     λ κ a r r′ e e′. both,
     λ κ a r r′ e e′ p q. ap (λ (n : ℕ). record { 0 = n }) (both p q),
-    λ κ a r r′ e e′. seats-one (a .0) (a .1 .0) r r′,
     λ κ a r r′ e e′. both,
     λ κ a r r′ e e′. both,
     λ κ a r r′ e e′. blocked-one (a .0) r r′,
+    λ κ a r r′ e e′. seats-one (a .0) (a .1 .0) r r′,
     λ κ a r r′ e e′. edges-one (a .0) (a .1 .0) r r′,
     λ κ a r r′ e e′. both,
     λ κ a r r′ e e′. both,

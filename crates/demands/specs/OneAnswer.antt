@@ -36,6 +36,9 @@ use Rattle.states.proofs.tests.member_refusal.Reads as states·member-refusal
 use Rattle.states.proofs.tests.admit_refusal.Reads as states·admit-refusal
 use Rattle.states.proofs.tests.arrive_refusal.Reads as states·arrive-refusal
 use Rattle.states.proofs.tests.wait_at_refusal.Reads as states·wait-at-refusal
+use Rattle.seating.proofs.seats.seats_of.Reads as seating·seats-of
+use Rattle.seating.proofs.waiting.blocked_of.Reads as seating·blocked-of
+use Rattle.seating.proofs.waiting.edges_of.Reads as seating·edges-of
 use Rattle.hall.proofs.table.Table.fresh.Reads as hall·fresh
 use Rattle.hall.proofs.table.Table.shaped.Reads as hall·shaped
 use Rattle.hall.proofs.table.Table.state_at.Reads as hall·state-at
@@ -43,10 +46,10 @@ use Rattle.hall.proofs.table.Table.open_at.Reads as hall·open-at
 use Rattle.hall.proofs.table.Table.member_at.Reads as hall·member-at
 use Rattle.hall.proofs.table.Table.phase_at.Reads as hall·phase-at
 use Rattle.hall.proofs.table.Table.is_sound.Reads as hall·is-sound
-use Rattle.hall.proofs.table.Table.blocked.Reads as hall·blocked
-use Rattle.hall.proofs.table.Table.edges.Reads as hall·edges
-use Rattle.hall.proofs.table.Table.seats.Reads as hall·seats
 use Rattle.hall.proofs.table.Table.reached.Reads as hall·reached
+use Rattle.hall.proofs.table.Table.blocked.Reads as hall·blocked
+use Rattle.hall.proofs.table.Table.seats.Reads as hall·seats
+use Rattle.hall.proofs.table.Table.edges.Reads as hall·edges
 use Rattle.hall.proofs.table.Table.open_task.Reads as hall·open-task
 use Rattle.hall.proofs.table.Table.end_task.Reads as hall·end-task
 use Rattle.hall.proofs.table.Table.open_phaser.Reads as hall·open-phaser
@@ -111,8 +114,9 @@ pub record OneAnswer : Type 1 where
       × One states·impedes.Learnt × One states·event-of.Learnt × One states·awaits.Learnt × One states·waits-at.Learnt
       × One states·caller-refusal.Learnt
       × One states·member-refusal.Learnt × One states·admit-refusal.Learnt × One states·arrive-refusal.Learnt × One states·wait-at-refusal.Learnt
+  pub seating : One seating·seats-of.Learnt × One seating·blocked-of.Learnt × One seating·edges-of.Learnt
   pub hall : One hall·fresh.Learnt × One hall·shaped.Learnt × One hall·state-at.Learnt × One hall·open-at.Learnt × One hall·member-at.Learnt
-      × One hall·phase-at.Learnt × One hall·seats.Learnt × One hall·is-sound.Learnt × One hall·reached.Learnt × One hall·blocked.Learnt
+      × One hall·phase-at.Learnt × One hall·is-sound.Learnt × One hall·reached.Learnt × One hall·blocked.Learnt × One hall·seats.Learnt
       × One hall·edges.Learnt
       × One hall·open-task.Learnt × One hall·end-task.Learnt × One hall·open-phaser.Learnt × One hall·close-phaser.Learnt × One hall·admit.Learnt
       × One hall·leave.Learnt × One hall·arrive.Learnt × One hall·wait.Learnt × One hall·wait-at.Learnt × One hall·release.Learnt

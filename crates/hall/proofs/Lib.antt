@@ -7,7 +7,6 @@ pub mod Soundness
 pub mod Impeded
 pub mod Looking
 pub mod Seating
-pub mod Filling
 pub mod One
 pub mod Rows
 pub mod ByEffect

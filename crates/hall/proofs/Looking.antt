@@ -2,25 +2,23 @@
 use mathlib.Core.Path.{_≡_, refl, sym, ap, _∙_, subst}
 use mathlib.Core.Bool.{Bool, true, false}
 use mathlib.Core.Logic.{_↔_}
-use Prim.Native.Nat.{ℕ, _+_, _*_, _-_, _%_, _^_, _<_}
+use Prim.Native.Nat.{ℕ, _+_, _*_, _%_, _<_}
 use native.Mathlib.Decide.{decLt}
 use native.Mathlib.Nat.{mod-eq-of-lt}
 use native.Mathlib.Omega.{arith}
-use lib.Dec.{ltb}
 use lib.ListN.{getD}
-use borrow.Author.Tests.{ltb-true, lt-ltb, le-ltb}
-use Rattle.sets.specs.Set.{Has}
-use Rattle.sets.proofs.Members.{full-has}
-use Rattle.sets.proofs.Loops.{Sifted, sift-done}
+use borrow.Author.Tests.{lt-ltb, le-ltb}
 use Rattle.states.specs.Parts.{eventOf, awaitsOf, impedesAt}
 use Rattle.states.specs.State.{event, freeTask, phase0, isBlocked}
 use Rattle.states.specs.Waiting.{Awaited}
 use Rattle.states.specs.declared.state.State.{State}
 use Rattle.states.specs.declared.state.State.the-variants.{Free, Running, Blocked}
 use Rattle.states.proofs.Events.{is-blocked, event-is, awaits-iff}
-use Rattle.states.proofs.Truth.{clash, and-left, and-right}
+use Rattle.states.proofs.Truth.{clash}
+use Rattle.seating.specs.Parts.{BlockedIn, LateIn}
+use Rattle.seating.proofs.Filling.{late-at}
 use Rattle.hall.specs.Parts.{BlockedSet, Late}
-use Rattle.hall.specs.Table.{stateAt, phaseAt}
+use Rattle.hall.specs.Table.{stateAt}
 use Rattle.hall.specs.Waiting.{impedesOf, BlockedOn, Impedes, ImpedesTask}
 use Rattle.hall.specs.declared.table.Table.{Table}
 use Rattle.hall.proofs.Impeded.{blocked-below}
@@ -28,14 +26,13 @@ use Rattle.hall.proofs.Places.{state-in, member-in, member-out, phase-i
 
 -- ---- who is blocked
 module _ (t : Table) where
-  pub blocked-set : (m : ℕ) → Sifted (λ k. isBlocked (stateAt t k) ≡ true) (2 ^ 32 - 1) m 0 → BlockedSet t m
-  blocked-set m g = record { iff = λ k. (λ h. done k .0 h .1, λ b. done k .1 (full-has 32 k (below k b), b)) }
-    where
-      done : (k : ℕ) → Has m k ↔ (Has (2 ^ 32 - 1) k × (isBlocked (stateAt t k) ≡ true))
-      done = sift-done _ (2 ^ 32 - 1) m g
-
-      below : (k : ℕ) → isBlocked (stateAt t k) ≡ true → k < 32
-      below k b = let e = is-blocked (stateAt t k) b in blocked-below t k (e .0) (e .1)
+  pub blocked-set : (m : ℕ) → BlockedIn (t .tasks) m → BlockedSet t m
+  blocked-set m g = record {
+    iff = λ k. (
+      λ h. let x = g .iff k .0 h in ap isBlocked (state-in t k (x .0)) ∙ x .1,
+      λ b. let e = is-blocked (stateAt t k) b in let l = blocked-below t k (e .0) (e .1) in g .iff k .1 (l, ap isBlocked (sym (state-in t k l)) ∙ b),
+    );
+  }
 
   -- ---- who impedes
   -- nobody impedes the event of no phaser
@@ -59,10 +56,6 @@ module _ (t : Table) (k : ℕ) (l : k < 32) where
   pub event-read : (e : Awaited) → e ≡ eventOf (getD (t .tasks) k freeTask .state) → e ≡ eventOf (stateAt t k)
   event-read e h = h ∙ ap eventOf (sym (state-in t k l))
 
-  -- whether it is blocked
-  pub blocked-read : (b : Bool) → b ≡ isBlocked (getD (t .tasks) k freeTask .state) → (b ≡ true) ↔ (isBlocked (stateAt t k) ≡ true)
-  blocked-read b h = let q = h ∙ ap isBlocked (sym (state-in t k l)) in (λ y. sym q ∙ y, λ y. q ∙ y)
-
   -- whether it awaits e
   pub awaits-read : (e : Awaited) (b : Bool) → b ≡ awaitsOf (getD (t .tasks) k freeTask .state) e → (b ≡ true) ↔ BlockedOn t k e
   awaits-read e b h =
@@ -85,26 +78,10 @@ module _ (t : Table) (k : ℕ) (l : k < 32) where
   pub impedes-is : (e : Awaited) (p : ℕ) (b : Bool) → p ≡ e .phaser .0 % 16 → b ≡ entry p e → b ≡ impedesOf t k e
   impedes-is e p b column h = h ∙ ap (λ j. entry j e) column ∙ impedes-at e
 
-  -- whether its kept phase, read at e's column, is less than e's
+  -- whether its kept phase is less than e's
+  pub late-in : (e : Awaited) → LateIn (t .phases) k e ↔ Late t k e
+  late-in e = (λ y. (y .0, rw (phase-in t k _ l (y .0)) (y .1)), λ y. (y .0, rw (phase-in t k _ l (y .0)) at (y .1)))
+
   pub late-read : (e : Awaited) (p : ℕ) (b : Bool) → p ≡ e .phaser .0 % 16 → b ≡ impedesAt true (getD (t .phases) (k * 16 + p) phase0) e
       → (b ≡ true) ↔ Late t k e
-  unfolding impedesAt
-  late-read e p b column h = let q = h ∙ ap kept column in (λ y. into (sym q ∙ y), λ y. q ∙ from y)
-    where
-      kept : ℕ → Bool
-      kept j = impedesAt true (getD (t .phases) (k * 16 + j) phase0) e
-
-      n : ℕ
-      n = getD (t .phases) (k * 16 + e .phaser .0 % 16) phase0 .0
-
-      -- the phase in e's column is that at e's phaser
-      same : e .phaser .0 < 16 → phaseAt t k (e .phaser .0) ≡ n
-      same m = phase-in t k _ l m ∙ ap (λ j. getD (t .phases) (k * 16 + j) phase0 .0) (sym (mod-eq-of-lt m))
-
-      into : kept (e .phaser .0 % 16) ≡ true → Late t k e
-      into y =
-          let m = ltb-true _ 16 (and-left (ltb (e .phaser .0) 16) (ltb n (e .phase .0)) y) in
-          (m, rw (same m) (ltb-true n (e .phase .0) (and-right (ltb (e .phaser .0) 16) (ltb n (e .phase .0)) y)))
-
-      from : Late t k e → kept (e .phaser .0 % 16) ≡ true
-      from y = simp (lt-ltb _ 16 (y .0), lt-ltb n (e .phase .0) (rw (same (y .0)) at (y .1)))
+  late-read e p b column h = let q = late-at (t .phases) k e p _ b column refl h in (λ y. late-in e .0 (q .0 y), λ y. q .1 (late-in e .1 y))

@@ -1,164 +1,70 @@
--- Sixteen sets, one for each phaser, into which some tasks go one by one: who goes where is any relation `Sits u q`. And what seats tell.
-use mathlib.Core.Path.{_≡_, refl, sym, ap, _∙_, subst}
-use mathlib.Core.Bool.{Bool, true, false}
+-- Seats and rows that were made of single arrays, at a table that has these; and what seats tell.
+use mathlib.Core.Path.{_≡_, refl, sym, ap, _∙_}
 use mathlib.Core.List.{List}
-use mathlib.Core.Logic.{_↔_, _⊎_, inl, inr, ⊎-elim}
-use Prim.Native.Nat.{ℕ, _+_, _*_, _%_, _^_, _<_}
-use native.Mathlib.Decide.{ℕ-discrete}
+use mathlib.Core.Logic.{_↔_}
+use Prim.Native.Nat.{ℕ, _%_, _^_, _<_}
+use native.Mathlib.Decide.{decLt}
 use native.Mathlib.Nat.{mod-eq-of-lt}
 use native.Mathlib.Omega.{arith}
-use lib.ListN.{replicate, getD, length, set, length-set}
-use lib.Seq.{getD-set-same, getD-set-other}
+use lib.ListN.{getD, List·getD-eq-default}
 use Rattle.sets.specs.Set.{Has}
-use Rattle.sets.proofs.Members.{Marked, Taken, has-lt, none-has, taken-out}
+use Rattle.sets.proofs.Members.{has-lt, none-has}
 use Rattle.states.specs.Parts.{eventOf}
-use Rattle.states.specs.State.{freeTask}
 use Rattle.states.specs.Waiting.{Awaited}
-use Rattle.states.specs.declared.state.Task.{Task}
 use Rattle.states.proofs.Events.{event-is}
-use Rattle.hall.specs.Parts.{SeatsOf, Late, columnOf}
-use Rattle.hall.specs.Table.{memberAt}
+use Rattle.seating.specs.Parts.{SeatsIn, RowsIn, LateIn, columnIn}
+use Rattle.seating.specs.declared.seats.Seats.{Seats}
+use Rattle.hall.specs.Parts.{SeatsOf, RowsBy, RowsOf, Late, columnOf}
+use Rattle.hall.specs.Table.{stateAt}
 use Rattle.hall.specs.Waiting.{BlockedOn, Impedes}
-use Rattle.hall.specs.declared.seats.Seats.{Seats}
 use Rattle.hall.specs.declared.table.Table.{Table}
 use Rattle.hall.proofs.Impeded.{member-below, impedes-iff}
+use Rattle.hall.proofs.Looking.{late-in, impedes-task}
 use Rattle.hall.proofs.Places.{state-in, member-in}
-use Rattle.hall.proofs.Soundness.{getD-all}
 
--- the sixteen sets have exactly those whom `In` puts there
-pub record Sets (In : ℕ → ℕ → Type 0) (sets : List ℕ) : Type 0 where
-  pub long : length sets ≡ 16
-  pub iff : (q u : ℕ) → q < 16 → Has (getD sets q 0) u ↔ In q u
+-- ---- what is said of arrays, said of the table
+module _ (t : Table) (s : Seats) (fits : s .all < 2 ^ 32) where
+  below : (k : ℕ) → Has (s .all) k → k < 32
+  below k h = has-lt 32 (s .all) k fits h
 
--- the same sets, told otherwise
-sets-along : {In Then : ℕ → ℕ → Type 0} {sets : List ℕ} → ((q u : ℕ) → q < 16 → In q u ↔ Then q u) → Sets In sets → Sets Then sets
-sets-along f g = record {
-  long = g .long;
-  iff = λ q u l. (λ h. f q u l .0 (g .iff q u l .0 h), λ h. g .iff q u l .1 (f q u l .1 h));
-}
+  column-in : (k : ℕ) → Has (s .all) k → columnOf t k ≡ columnIn (t .tasks) k
+  column-in k h = ap (λ s. eventOf s .phaser .0 % 16) (state-in t k (below k h))
 
--- one of the sets with t in it or not, as told
-sets-marked : {In Then : ℕ → ℕ → Type 0} {sets : List ℕ} (place t r : ℕ) (b : Bool) → Sets In sets → place < 16 → Marked (getD sets place 0) t b r
-    → ((q u : ℕ) → (q ≡ place → ⊥) → In q u ↔ Then q u)
-    → ((u : ℕ) → (((u < 32) × (u ≡ t) × (b ≡ true)) ⊎ (In place u × (u ≡ t → ⊥))) ↔ Then place u)
-    → Sets Then (set sets place r)
-sets-marked {In} {Then} {sets} place t r b g l marked other here =
-    record { long = length-set sets place r ∙ g .long; iff = λ q u h. each q u h (ℕ-discrete q place) }
-  where
-    mine : (u : ℕ) → Has r u ↔ Then place u
-    mine u = (
-      λ h. here u .0 (⊎-elim (λ p. inl p) (λ p. inr (g .iff place u l .0 (p .0), p .1)) (marked u .0 h)),
-      λ h. marked u .1 (⊎-elim (λ p. inl p) (λ p. inr (g .iff place u l .1 (p .0), p .1)) (here u .1 h)),
-    )
-
-    each : (q u : ℕ) → q < 16 → Dec (q ≡ place) → Has (getD (set sets place r) q 0) u ↔ Then q u
-    each q u h (yes e) =
-        let z = g .long in
-        subst (λ i. Has (getD (set sets place r) i 0) u ↔ Then i u) (sym e) (rw (getD-set-same sets place r 0 (omega arith)) (mine u))
-    each q u h (no e) =
-        let p = g .iff q u h in
-        rw (getD-set-other sets place q r 0 e) (λ x. other q u e .0 (p .0 x), λ x. p .1 (other q u e .1 x))
-
-module _ (all : ℕ) (Sits : ℕ → ℕ → Type 0) where
-  -- of all, those that are not left have gone to their sets
-  abbrev pub Gone : ℕ → ℕ → ℕ → Type 0
-  Gone left q u = Has all u × (Has left u → ⊥) × Sits u q
-
-  -- and t, which is left, to those of its sets that are below p
-  abbrev pub Going : ℕ → ℕ → ℕ → ℕ → ℕ → Type 0
-  Going left t p q u = Gone left q u ⊎ ((u ≡ t) × (q < p) × Sits u q)
-
-  pub gone-start : Sets (Gone all) (replicate 16 0)
-  gone-start = record {
-    long = refl;
-    iff = λ q u l. (λ h. absurd (none-has u (rw (getD-all {A = ℕ} 16 q 0) at h)), λ h. absurd (h .1 (h .0)));
+  pub seats-in : SeatsIn (t .tasks) (t .members) s → SeatsOf t s
+  seats-in g = record {
+    members = λ p u l. (
+      λ h. let x = g .members p u l .0 h in (x .0, member-in t u p (below u (x .0)) l ∙ x .1),
+      λ h. g .members p u l .1 (h .0, sym (member-in t u p (below u (h .0)) l) ∙ h .1),
+    );
+    waiters = λ p k l. (
+      λ h. let x = g .waiters p k l .0 h in (x .0, column-in k (x .0) ∙ x .1),
+      λ h. g .waiters p k l .1 (h .0, sym (column-in k (h .0)) ∙ h .1),
+    );
+    long = g .long;
   }
 
-  pub gone-done : {sets : List ℕ} → Sets (Gone 0) sets → (q u : ℕ) → q < 16 → Has (getD sets q 0) u ↔ (Has all u × Sits u q)
-  gone-done g q u l = let p = g .iff q u l in (λ h. let x = p .0 h in (x .0, x .2), λ h. p .1 (h .0, none-has u, h .1))
-
-  pub going-start : {sets : List ℕ} (left t : ℕ) → Sets (Gone left) sets → Sets (Going left t 0) sets
-  going-start left t g = sets-along (λ q u l. (λ h. inl h, ⊎-elim (λ h. h) (λ h. absurd (omega arith)))) g
-
-  module _ (left t : ℕ) (inside : Has left t) where
-    pub going-more : {sets : List ℕ} (p r : ℕ) (b : Bool) → t < 32 → Sets (Going left t p) sets → p < 16 → ((b ≡ true) ↔ Sits t p)
-        → Marked (getD sets p 0) t b r → Sets (Going left t (p + 1)) (set sets p r)
-    going-more p r b near g l iff marked = sets-marked p t r b g l marked other here
-      where
-        other : (q u : ℕ) → (q ≡ p → ⊥) → Going left t p q u ↔ Going left t (p + 1) q u
-        other q u n = (
-          ⊎-elim (λ h. inl h) (λ h. inr (h .0, omega arith, h .2)),
-          ⊎-elim (λ h. inl h) (λ h. inr (h .0, omega arith, h .2)),
-        )
-
-        here : (u : ℕ) → (((u < 32) × (u ≡ t) × (b ≡ true)) ⊎ (Going left t p p u × (u ≡ t → ⊥))) ↔ Going left t (p + 1) p u
-        here u = (
-          ⊎-elim
-              (λ h. inr (h .1, omega arith, subst (λ k. Sits k p) (sym (h .1)) (iff .0 (h .2))))
-              (λ h. ⊎-elim (λ x. inl x) (λ x. absurd (h .1 (x .0))) (h .0)),
-          ⊎-elim
-              (λ h. inr (inl h, λ e. h .1 (subst (Has left) (sym e) inside)))
-              (λ h. inl (omega arith, h .0, iff .1 (subst (λ k. Sits k p) (h .0) (h .2)))),
-        )
-
-    module _ (rest : ℕ) (within : Has all t) (taken : Taken left t rest) where
-      -- who is not in what is left now is t, or was gone before
-      later : (q u : ℕ) → Gone rest q u → (u ≡ t) ⊎ (Has left u → ⊥)
-      later q u h = taken-out left t rest u taken (h .1)
-
-      pub going-done : {sets : List ℕ} → Sets (Going left t 16) sets → Sets (Gone rest) sets
-      going-done g = sets-along (λ q u l. (into q u, from q u l)) g
-        where
-          into : (q u : ℕ) → Going left t 16 q u → Gone rest q u
-          into q u (inl h) = (h .0, λ r. h .1 (taken u .0 r .0), h .2)
-          into q u (inr h) = (subst (Has all) (sym (h .0)) within, λ r. taken u .0 r .1 (h .0), h .2)
-
-          from : (q u : ℕ) → q < 16 → Gone rest q u → Going left t 16 q u
-          from q u l h = ⊎-elim (λ e. inr (e, l, h .2)) (λ n. inl (h .0, n, h .2)) (later q u h)
-
-      -- where t has one place only, it is gone at once
-      pub gone-more : {sets : List ℕ} (place r : ℕ) → t < 32 → Sets (Gone left) sets → place < 16
-          → ((q : ℕ) → Sits t q ↔ (q ≡ place)) → Marked (getD sets place 0) t true r → Sets (Gone rest) (set sets place r)
-      gone-more place r near g l only marked = sets-marked place t r true g l marked other here
-        where
-          before : (q u : ℕ) → Gone left q u → Gone rest q u
-          before q u h = (h .0, λ x. h .1 (taken u .0 x .0), h .2)
-
-          other : (q u : ℕ) → (q ≡ place → ⊥) → Gone left q u ↔ Gone rest q u
-          other q u n = (
-            before q u,
-            λ h. ⊎-elim (λ e. absurd (n (only q .0 (subst (λ k. Sits k q) e (h .2))))) (λ x. (h .0, x, h .2)) (later q u h),
-          )
-
-          here : (u : ℕ) → (((u < 32) × (u ≡ t) × (true ≡ true)) ⊎ (Gone left place u × (u ≡ t → ⊥))) ↔ Gone rest place u
-          here u = (
-            ⊎-elim
-                (λ h. (subst (Has all) (sym (h .1)) within, λ x. taken u .0 x .1 (h .1), subst (λ k. Sits k place) (sym (h .1)) (only place .1 refl)))
-                (λ h. before place u (h .0)),
-            λ h. ⊎-elim (λ e. inl (omega arith, e, refl)) (λ x. inr ((h .0, x, h .2), λ e. x (subst (Has left) (sym e) inside))) (later place u h),
-          )
-
--- ---- what the code reads of two arrays, and what a table that has them says
--- a task's event has one column
-pub one-place : {e f : Awaited} {place : ℕ} → e ≡ f → place ≡ e .phaser .0 % 16 → (q : ℕ) → (f .phaser .0 % 16 ≡ q) ↔ (q ≡ place)
-one-place {e} {f} {place} is column q = let z = ap (λ (e : Awaited). e .phaser .0 % 16) is in (λ h. sym h ∙ sym z ∙ sym column, λ h. sym z ∙ sym column ∙ sym h)
-
-module _ (t : Table) (all u p : ℕ) (fits : all < 2 ^ 32) where
-  pub seated-members : {members : List Bool} (set : ℕ) → p < 16 → t .members ≡ members
-      → Has set u ↔ (Has all u × (getD members (u * 16 + p) false ≡ true)) → Has set u ↔ (Has all u × (memberAt t u p ≡ true))
-  seated-members set l is g = (
-    λ h. let x = g .0 h in (x .0, member-in t u p (has-lt 32 all u fits (x .0)) l ∙ ap (λ m. getD m (u * 16 + p) false) is ∙ x .1),
-    λ h. g .1 (h .0, ap (λ m. getD m (u * 16 + p) false) (sym is) ∙ sym (member-in t u p (has-lt 32 all u fits (h .0)) l) ∙ h .1),
-  )
-
-  pub seated-waiters : {tasks : List Task} (set : ℕ) → t .tasks ≡ tasks
-      → Has set u ↔ (Has all u × (eventOf (getD tasks u freeTask .state) .phaser .0 % 16 ≡ p)) → Has set u ↔ (Has all u × (columnOf t u ≡ p))
-  seated-waiters {tasks} set is g = (λ h. let x = g .0 h in (x .0, same (x .0) ∙ x .1), λ h. g .1 (h .0, sym (same (h .0)) ∙ h .1))
+  -- a row that there is not has nobody
+  pub rows-in : ((p : ℕ) → getD (s .members) p 0 < 2 ^ 32) → (rows : List ℕ) → RowsIn (t .tasks) (t .phases) s rows → RowsBy t s rows
+  rows-in narrow rows g = record { iff = λ k u. each k u (decLt k 32); long = g .long }
     where
-      same : Has all u → columnOf t u ≡ eventOf (getD tasks u freeTask .state) .phaser .0 % 16
-      same h =
-          let state = state-in t u (has-lt 32 all u fits h) ∙ ap (λ (l : List Task). getD l u freeTask .state) is in
-          ap (λ s. eventOf s .phaser .0 % 16) state
+      late : (k u : ℕ) → Has (getD (s .members) (columnOf t k) 0) u → LateIn (t .phases) u (eventOf (stateAt t k)) ↔ Late t u (eventOf (stateAt t k))
+      late k u h = late-in t u (has-lt 32 (getD (s .members) (columnOf t k) 0) u (narrow (columnOf t k)) h) (eventOf (stateAt t k))
+
+      row : (k u : ℕ) → k < 32
+          → Has (getD rows k 0) u ↔ (Has (s .all) k × Has (getD (s .members) (columnOf t k) 0) u × LateIn (t .phases) u (eventOf (stateAt t k)))
+      row k u l = rw (state-in t k l) (g .iff k u l)
+
+      each : (k u : ℕ) → Dec (k < 32)
+          → Has (getD rows k 0) u ↔ (Has (s .all) k × Has (getD (s .members) (columnOf t k) 0) u × Late t u (eventOf (stateAt t k)))
+      each k u (yes l) = (
+        λ h. let x = row k u l .0 h in (x .0, x .1, late k u (x .1) .0 (x .2)),
+        λ h. row k u l .1 (h .0, h .1, late k u (h .1) .1 (h .2)),
+      )
+      each k u (no l) =
+          let z = g .long in (
+            λ h. absurd (none-has u (rw (List·getD-eq-default rows 0 {n = k} (omega arith)) at h)),
+            λ h. absurd (l (below k (h .0))),
+          )
 
 -- ---- what seats tell of an event e, whose column is p
 module _ (t : Table) (s : Seats) (g : SeatsOf t s) (e : Awaited) (p : ℕ) (column : p ≡ e .phaser .0 % 16) where
@@ -182,3 +88,15 @@ module _ (t : Table) (s : Seats) (g : SeatsOf t s) (e : Awaited) (p : ℕ) (colu
   -- who awaits it sits in its column
   pub seated-waits : (k : ℕ) → Has (s .all) k → BlockedOn t k e → Has (getD (s .waiters) p 0) k
   seated-waits k h b = g .waiters p k (omega arith) .1 (h, ap (λ (f : Awaited). f .phaser .0 % 16) (event-is _ e b) ∙ sym column)
+
+-- ---- rows of who is late are rows of who impedes
+pub seated-rows : (t : Table) (s : Seats) → SeatsOf t s → (rows : List ℕ) → RowsBy t s rows → RowsOf t (s .all) rows
+seated-rows t s seated rows g = record {
+  long = g .long;
+  iff = λ k u.
+      let e = eventOf (stateAt t k) in
+      let impedes = seated-impedes t s seated e (columnOf t k) refl u in (
+        λ h. let q = g .iff k u .0 h in let i = impedes .0 (q .1, q .2) in (q .0, i .0, impedes-task t k u .0 (i .1)),
+        λ h. let i = impedes .1 (h .1, impedes-task t k u .1 (h .2)) in g .iff k u .1 (h .0, i .0, i .1),
+      );
+}

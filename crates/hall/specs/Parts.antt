@@ -9,10 +9,10 @@ use Rattle.sets.specs.Set.{Has}
 use Rattle.states.specs.Parts.{entrySound, stateSound, eventOf}
 use Rattle.states.specs.State.{isBlocked}
 use Rattle.states.specs.Waiting.{Awaited}
+use Rattle.seating.specs.declared.seats.Seats.{Seats}
 use Rattle.hall.specs.Every.{every}
 use Rattle.hall.specs.Table.{stateAt, openAt, memberAt, phaseAt}
 use Rattle.hall.specs.Waiting.{ImpedesTask}
-use Rattle.hall.specs.declared.seats.Seats.{Seats}
 use Rattle.hall.specs.declared.table.Table.{Table}
 
 -- the test that decides `Sound`: each of the 512 entries, which is of task i / 16 and phaser i % 16, and each of the 32 states

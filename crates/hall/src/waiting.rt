@@ -1,12 +1,14 @@
-// Document 01, 'Stuck': who is blocked, who impedes whom, and whether every member has reached an event.
-use crate::seats::Seats;
+// Document 01, 'Stuck': who is blocked, who sits where, who impedes whom, and whether every member has reached an event.
 use crate::table::Table;
+use seating::seats::Seats;
+use seating::seats::seats_of;
+use seating::waiting::blocked_of;
+use seating::waiting::edges_of;
 use states::state::Event;
 use states::waiting::column;
-use states::waiting::event_of;
 use states::waiting::impedes;
 ghost use mathlib.Core.Path.{_≡_};
-ghost use Rattle.hall.specs.Parts.{BlockedSet, RowsBy};
+ghost use Rattle.hall.specs.Parts.{BlockedSet, SeatsOf, RowsBy};
 ghost use Rattle.hall.specs.Waiting.{reachedOf};
 
 impl Table {
@@ -26,46 +28,30 @@ impl Table {
         true
     }
 
-    // The blocked tasks. What is left is cut down to what is kept so that the loop's length is not known when compiled: a loop of known length is
-    // unrolled, and breaks the table into pieces that are copied one by one.
+    // The blocked tasks. An array is handed on by a local: passed straight from its field it is not covered.
     pub fn blocked(self) -> u32
         ensures { λ r. ⌜ BlockedSet self r ⌝ }
     {
-        let mut set: u32 = 0xffff_ffff;
-        let mut left: u32 = 0xffff_ffff;
-        while left != 0 {
-            let t = sets::lowest(left);
-            let task = self.tasks[t];
-            let state = task.state;
-            set = sets::kept(set, t, state.is_blocked());
-            left = sets::common(sets::take(left, t), set);
-        }
-        set
+        let tasks = self.tasks;
+        blocked_of(tasks)
     }
 
-    // For each of those seated, who of them impedes its event: only members of its phaser are looked at.
+    // Who of some tasks is a member of each phaser, and who awaits an event of it.
+    pub fn seats(self, all: u32) -> Seats
+        ensures all { λ r. ⌜ r .all ≡ all ⌝ }
+        ensures seated { λ r. ⌜ SeatsOf self r ⌝ }
+    {
+        let tasks = self.tasks;
+        let members = self.members;
+        seats_of(tasks, members, all)
+    }
+
+    // For each of those seated, who of them impedes its event.
     pub fn edges(self, seats: Seats) -> [u32; 32]
         ensures { λ r. ⌜ RowsBy self seats r ⌝ }
     {
-        let members = seats.members;
-        let mut rows = [0u32; 32];
-        let mut todo = seats.all;
-        while todo != 0 {
-            let t = sets::lowest(todo);
-            let task = self.tasks[t];
-            let event = event_of(task);
-            let place = column(event);
-            let mut impeders = members[place];
-            let mut left = impeders;
-            while left != 0 {
-                let u = sets::lowest(left);
-                let phase = self.phases[u * 16 + place];
-                impeders = sets::kept(impeders, u, impedes(true, phase, event));
-                left = sets::rest(left);
-            }
-            rows[t] = impeders;
-            todo = sets::rest(todo);
-        }
-        rows
+        let tasks = self.tasks;
+        let phases = self.phases;
+        edges_of(tasks, phases, seats)
     }
 }

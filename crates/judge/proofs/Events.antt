@@ -18,10 +18,10 @@ use Rattle.states.specs.State.{freeTask, isBlocked}
 use Rattle.states.specs.Waiting.{Awaited}
 use Rattle.states.proofs.Events.{is-blocked, one-awaited, event-is}
 use Rattle.states.proofs.Truth.{clash}
+use Rattle.seating.specs.declared.seats.Seats.{Seats}
 use Rattle.hall.specs.Parts.{BlockedSet, Late}
 use Rattle.hall.specs.Table.{stateAt}
 use Rattle.hall.specs.Waiting.{BlockedOn, Impedes}
-use Rattle.hall.specs.declared.seats.Seats.{Seats}
 use Rattle.hall.specs.declared.table.Table.{Table}
 use Rattle.hall.proofs.Looking.{event-read}
 use Rattle.hall.proofs.Seating.{seated-impedes, seated-waits}

@@ -13,9 +13,9 @@ use Rattle.deadlock.specs.Ring.{Step}
 use Rattle.states.specs.Parts.{eventOf}
 use Rattle.states.specs.State.{freeTask}
 use Rattle.states.specs.Waiting.{Awaited}
+use Rattle.seating.specs.declared.seats.Seats.{Seats}
 use Rattle.hall.specs.Parts.{Late}
 use Rattle.hall.specs.Waiting.{Impedes, ImpedesTask}
-use Rattle.hall.specs.declared.seats.Seats.{Seats}
 use Rattle.hall.specs.declared.table.Table.{Table}
 use Rattle.hall.proofs.Looking.{event-read, impedes-task}
 use Rattle.hall.proofs.Seating.{seated-impedes}

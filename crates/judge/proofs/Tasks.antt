@@ -13,10 +13,10 @@ use Rattle.deadlock.specs.Waiting.{TaskEdge}
 use Rattle.deadlock.proofs.Walks.{along}
 use Rattle.states.specs.State.{isBlocked}
 use Rattle.states.proofs.Events.{is-blocked}
+use Rattle.seating.specs.declared.seats.Seats.{Seats}
 use Rattle.hall.specs.Parts.{BlockedSet, SeatsOf, RowsOf}
 use Rattle.hall.specs.Table.{stateAt}
 use Rattle.hall.specs.Waiting.{BlockedOn, Impedes, ImpedesTask}
-use Rattle.hall.specs.declared.seats.Seats.{Seats}
 use Rattle.hall.specs.declared.table.Table.{Table}
 use Rattle.judge.specs.Parts.{Seated}
 use Rattle.judge.specs.Routes.{TaskRoute}

@@ -6,9 +6,9 @@ use mathlib.Core.Logic.{_↔_, _⊎_}
 use Prim.Native.Nat.{ℕ, _<_}
 use lib.ListN.{getD}
 use Rattle.sets.specs.Set.{Has, Least}
+use Rattle.seating.specs.declared.seats.Seats.{Seats}
 use Rattle.hall.specs.Parts.{BlockedSet, SeatsOf}
 use Rattle.hall.specs.Waiting.{ImpedesTask}
-use Rattle.hall.specs.declared.seats.Seats.{Seats}
 use Rattle.hall.specs.declared.table.Table.{Table}
 use Rattle.density.specs.Density.{FewerEvents}
 use Rattle.judge.specs.Routes.{TaskRoute, EventRoute, FewerRoute}

@@ -1,5 +1,5 @@
-use hall::seats::Seats;
 use hall::table::Table;
+use seating::seats::Seats;
 use states::waiting::awaits;
 use states::waiting::column;
 use states::waiting::event_of;

@@ -1,6 +1,6 @@
 use deadlock::ring::Round;
-use hall::seats::Seats;
 use hall::table::Table;
+use seating::seats::Seats;
 use states::waiting::column;
 use states::waiting::event_of;
 use states::waiting::impedes;

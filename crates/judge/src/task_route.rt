@@ -1,5 +1,5 @@
-use hall::seats::Seats;
 use hall::table::Table;
+use seating::seats::Seats;
 ghost use Rattle.judge.specs.Parts.{Seated};
 ghost use Rattle.judge.specs.Routes.{TaskRoute};
 

@@ -2,7 +2,7 @@
 use Prim.Native.Nat.{_^_, _<_}
 use native.Mathlib.Omega.{arith}
 use borrow.Author.Needs.{needs}
-use Rattle.hall.proofs.Filling.{seated-rows}
+use Rattle.hall.proofs.Seating.{seated-rows}
 use Rattle.density.proofs.Counted.{density-counted}
 use Rattle.density.proofs.density.density_of.Statement.{statement}
 use Rattle.density.proofs.density.density_of.Tie as tie

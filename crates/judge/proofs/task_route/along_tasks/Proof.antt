@@ -1,4 +1,4 @@
-use Rattle.hall.proofs.Filling.{seated-rows}
+use Rattle.hall.proofs.Seating.{seated-rows}
 use Rattle.judge.proofs.Tasks.{blocked-edges, rows-named}
 use Rattle.judge.proofs.task_route.along_tasks.Statement.{statement}
 use Rattle.judge.proofs.task_route.along_tasks.Tie as tie

@@ -1,84 +1,12 @@
--- The invariant: of the tasks that were looked at, the blocked ones are kept.
-use mathlib.Core.Path.{_≡_}
-use mathlib.Core.Bool.{true}
-use Prim.Native.Nat.{_-_, _^_, _<_}
-use native.Mathlib.Omega.{arith}
-use Rattle.sets.proofs.Members.{within-le}
-use Rattle.sets.proofs.Loops.{Sifted, sift-start, sift-if, sift-kept, lowest-lt, lowest-less}
-use Rattle.states.specs.State.{isBlocked}
-use Rattle.hall.specs.Table.{stateAt}
-use Rattle.hall.proofs.Looking.{blocked-read, blocked-set}
+use Rattle.hall.proofs.Looking.{blocked-set}
 use Rattle.hall.proofs.table.Table.blocked.Statement.{statement}
 use Rattle.hall.proofs.table.Table.blocked.Tie as tie
 
-abbrev Inv-loop : tie.InvT-loop
-Inv-loop self set₀ left₀ set left = (left < 2 ^ 32) × Sifted (λ k. isBlocked (stateAt self k) ≡ true) (2 ^ 32 - 1) set left
+blocked-of-requires : tie.Need-blocked-of-requires
+blocked-of-requires c κs = tt
 
-abbrev μ-loop : tie.MeasureT-loop
-μ-loop self set₀ left₀ set left = left
-
-loop-holds : tie.Need-loop-holds Inv-loop μ-loop
-loop-holds c = (omega arith, sift-start _ _)
-
-lowest-requires : tie.Need-lowest-requires Inv-loop μ-loop
-lowest-requires c κs = tt
-
--- the task that is looked at
-near : (c : tie.After-lowest Inv-loop μ-loop) → c .lowest .result < 32
-near c = lowest-lt (c .before .before .loop .inv .0) (c .before .loop-test .taken) (c .lowest .ensures)
-
-mul-task : tie.Need-mul-task Inv-loop μ-loop
-mul-task c = let l = near c in omega arith
-
-element-copy-out-task : tie.Need-element-copy-out-task Inv-loop μ-loop
-element-copy-out-task c = near c
-
-is-blocked-requires : tie.Need-is-blocked-requires Inv-loop μ-loop
-is-blocked-requires c κs = tt
-
-kept-requires : tie.Need-kept-requires Inv-loop μ-loop
-kept-requires c κs = tt
-
-take-requires : tie.Need-take-requires Inv-loop μ-loop
-take-requires c κs = tt
-
-common-requires : tie.Need-common-requires Inv-loop μ-loop
-common-requires c κs = tt
-
--- from the end of a turn back to where its task was chosen
-abbrev chosen : tie.After-common Inv-loop μ-loop → tie.After-lowest Inv-loop μ-loop
-chosen c = c .before .before .before .before .before
-
-loop-less : tie.Need-loop-less Inv-loop μ-loop
-loop-less c =
-    let at = chosen c .before in
-    let taken = lowest-less (at .before .loop .inv .0) (at .loop-test .taken) (chosen c .lowest .ensures) _ (c .before .take .ok) (c .before .take .ensures) in
-    let cut = within-le 32 _ _ (c .common .ok) (λ k h. c .common .ensures k .0 h .0) in
-    omega arith
-
-loop-again : tie.Need-loop-again Inv-loop μ-loop
-loop-again c =
-    let iff = blocked-read _ _ (near (chosen c)) _ (c .before .before .before .is-blocked .ensures) in
-    let sifted = sift-if _ (chosen c .before .before .loop .inv .1) (c .before .take .ensures) iff (c .before .before .kept .ensures) in
-    (c .common .ok, sift-kept _ sifted (c .common .ensures))
-
-returns : tie.Need-returns Inv-loop μ-loop
-returns c = blocked-set _ _ (rw (c .loop-test .left) at (c .before .loop .inv .1))
+returns : tie.Need-returns
+returns c = blocked-set _ _ (c .blocked-of .ensures)
 
 pub blocked-spec : {M : Type 1} → statement M
-blocked-spec =
-    tie.close
-    (tie.spec
-    Inv-loop
-    μ-loop
-    loop-holds
-    lowest-requires
-    mul-task
-    element-copy-out-task
-    is-blocked-requires
-    kept-requires
-    take-requires
-    common-requires
-    loop-less
-    loop-again
-    returns)
+blocked-spec = tie.close (tie.spec blocked-of-requires returns)

@@ -1,10 +1,9 @@
 // Who of some tasks is a member of each phaser, and who awaits an event of it: what a judge looks at in place of all 512 entries.
-use crate::table::Table;
 use states::state::Task;
 use states::waiting::column;
 use states::waiting::event_of;
 ghost use mathlib.Core.Path.{_≡_};
-ghost use Rattle.hall.specs.Parts.{SeatsOf};
+ghost use Rattle.seating.specs.Parts.{SeatsIn};
 
 // Some tasks; and for each phaser, those of them that are its members, and those whose event stands in its column.
 pub struct Seats {
@@ -14,9 +13,9 @@ pub struct Seats {
 }
 
 // It takes two arrays and not the table, since by value a table is copied whole.
-fn seats_of(tasks: [Task; 32], members: [bool; 512], all: u32) -> Seats
+pub fn seats_of(tasks: [Task; 32], members: [bool; 512], all: u32) -> Seats
     ensures all { λ r. ⌜ r .all ≡ all ⌝ }
-    ensures seated { λ r. ⌜ ((t : Table) → t .tasks ≡ tasks → t .members ≡ members → SeatsOf t r) ⌝ }
+    ensures seated { λ r. ⌜ SeatsIn tasks members r ⌝ }
 {
     let mut seated = [0u32; 16];
     let mut waiters = [0u32; 16];
@@ -37,16 +36,5 @@ fn seats_of(tasks: [Task; 32], members: [bool; 512], all: u32) -> Seats
         all,
         members: seated,
         waiters,
-    }
-}
-
-impl Table {
-    pub fn seats(self, all: u32) -> Seats
-        ensures all { λ r. ⌜ r .all ≡ all ⌝ }
-        ensures seated { λ r. ⌜ SeatsOf self r ⌝ }
-    {
-        let tasks = self.tasks;
-        let members = self.members;
-        seats_of(tasks, members, all)
     }
 }

@@ -1,17 +1,15 @@
 -- The invariants: outside, all who are not in `left` have gone to the sets of their phasers; inside, t too has gone to those below p.
 use mathlib.Core.Path.{_≡_, refl}
 use mathlib.Core.Bool.{true, false}
-use Prim.Native.Nat.{_+_, _*_, _-_, _%_, _^_, _≤_, _<_}
+use Prim.Native.Nat.{_+_, _*_, _-_, _^_, _≤_, _<_}
 use native.Mathlib.Omega.{arith}
 use lib.ListN.{getD}
 use Rattle.sets.proofs.Members.{Within}
 use Rattle.sets.proofs.Loops.{lowest-has, lowest-lt, lowest-less}
-use Rattle.states.specs.Parts.{eventOf}
-use Rattle.states.specs.State.{freeTask}
-use Rattle.hall.proofs.Seating.{Sets, Gone, Going, gone-start, gone-more, gone-done, going-start, going-more, going-done}
-use Rattle.hall.proofs.Seating.{one-place, seated-members, seated-waiters}
-use Rattle.hall.proofs.seats.seats_of.Statement.{statement}
-use Rattle.hall.proofs.seats.seats_of.Tie as tie
+use Rattle.seating.specs.Parts.{columnIn}
+use Rattle.seating.proofs.Placing.{Sets, Gone, Going, gone-start, gone-more, gone-done, going-start, going-entry, going-done, one-place}
+use Rattle.seating.proofs.seats.seats_of.Statement.{statement}
+use Rattle.seating.proofs.seats.seats_of.Tie as tie
 
 abbrev Inv-loop2 : tie.InvT-loop2
 Inv-loop2 all tasks members seated₀ waiters left t place p₀ seated p =
@@ -25,7 +23,7 @@ Inv-loop all tasks members seated₀ waiters₀ left₀ seated waiters left =
     (left < 2 ^ 32)
     × Within left all
     × Sets (Gone all (λ u q. getD members (u * 16 + q) false ≡ true) left) seated
-    × Sets (Gone all (λ u q. eventOf (getD tasks u freeTask .state) .phaser .0 % 16 ≡ q) left) waiters
+    × Sets (Gone all (λ u q. columnIn tasks u ≡ q) left) waiters
 
 abbrev μ-loop : tie.MeasureT-loop
 μ-loop all tasks members seated₀ waiters₀ left₀ seated waiters left = left
@@ -113,7 +111,9 @@ loop2-again c =
     let low = chosen (c .before .before .before) in
     let here = lowest-has (low .before .before .loop .inv .0) (low .before .loop-test .taken) (low .lowest .ensures) in
     let l : c .before .before .loop2 .p < 16 = omega (arith, c .before .loop2-test .taken) in
-    (omega arith, going-more _ _ _ _ here _ _ _ (near low) (c .before .before .loop2 .inv .1) l (λ e. e, λ e. e) (c .marked2 .ensures))
+    let entries = low .before .before .before .args .t2 in
+    let inv = c .before .before .loop2 .inv in
+    (omega arith, going-entry entries _ _ _ here _ _ _ (near low) (inv .1) l (omega arith) (c .marked2 .ensures))
 
 rest-requires : tie.Need-rest-requires Inv-loop2 μ-loop2 Inv-loop μ-loop
 rest-requires c κs = tt
@@ -146,14 +146,8 @@ loop-again c =
 
 returns : tie.Need-returns Inv-loop2 μ-loop2 Inv-loop μ-loop
 returns c =
-    let done = rw (c .loop-test .left) at (c .before .loop .inv) in (
-      refl,
-      λ t tasks members. record {
-        members = λ p u l. seated-members t _ u p (c .before .before .fits .all .fits) _ l members (gone-done _ _ (done .2) p u l);
-        waiters = λ p k l. seated-waiters t _ k p (c .before .before .fits .all .fits) _ tasks (gone-done _ _ (done .3) p k l);
-        long = (done .2 .long, done .3 .long);
-      },
-    )
+    let done = rw (c .loop-test .left) at (c .before .loop .inv) in
+    (refl, record { members = gone-done _ _ (done .2); waiters = gone-done _ _ (done .3); long = (done .2 .long, done .3 .long) })
 
 pub seats-of-spec : {M : Type 1} → statement M
 seats-of-spec =
