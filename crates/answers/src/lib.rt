@@ -1,3 +1,5 @@
+#![tactic(auto)]
+
 // Document 01, 'Answer numbers', in its order. From 10 up they are refusals.
 
 // done / wait passed / now blocked

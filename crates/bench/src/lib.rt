@@ -1,1 +1,3 @@
+#![tactic(auto)]
+
 // Document 01's bench: definitions in specs/, one statement over them in proofs/; it has no code.

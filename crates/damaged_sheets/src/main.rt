@@ -1,3 +1,5 @@
+#![tactic(auto)]
+
 // Seven sheets, whole and damaged at each byte, judged through the entry: a line for each, `base damage place answer`, and where the
 // answer is 0 also the mask, the count, the ring's length and the ring. Damages: 0 none; 1 cut before the place; the byte at the place
 // 2 with its top bit turned, 3 one higher, 4 made 0, 5 made 255; 6 a byte added, the number of the place. What it is to write was worked

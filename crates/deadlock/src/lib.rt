@@ -1,2 +1,4 @@
+#![tactic(auto)]
+
 pub mod elimination;
 pub mod ring;

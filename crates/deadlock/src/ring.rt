@@ -4,7 +4,7 @@ ghost use Rattle.deadlock.specs.Ring.{Next, RingIn};
 ghost use Rattle.deadlock.specs.Parts.{step_of, go_of, low_of, once_of, Filled};
 
 // What the ring walk comes to: whether it always found a task to step to, and the ring in 32 places filled up with 255.
-#[derive(Drop)]
+#[derive(Clone, Copy)]
 pub struct Round {
     pub closed: bool,
     pub length: u32,

@@ -16,7 +16,7 @@ pub fn density_of(table: Table) -> Density
 }
 
 // What is printed of the next piece of a file, the totals with it, how many bytes it took, and whether it is the last.
-#[derive(Drop)]
+#[derive(Clone, Copy)]
 pub struct Step {
     pub text: Text,
     pub totals: Totals,

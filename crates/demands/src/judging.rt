@@ -16,7 +16,7 @@ pub fn judge(table: Table, route: u64) -> Verdict
 }
 
 // The verdicts by each route.
-#[derive(Drop)]
+#[derive(Clone, Copy)]
 pub struct ByRoute {
     pub tasks: Verdict,
     pub events: Verdict,
@@ -37,7 +37,7 @@ pub fn verdicts(table: Table) -> ByRoute
 }
 
 // Whom the two routes name.
-#[derive(Drop)]
+#[derive(Clone, Copy)]
 pub struct NamedByRoute {
     pub tasks: u32,
     pub events: u32,

@@ -5,7 +5,7 @@ use crate::events::events_of;
 use hall::table::Table;
 
 // The blocked tasks, the distinct awaited events, and the edges of the task graph, of the event graph and of the task-event graph.
-#[derive(Drop)]
+#[derive(Clone, Copy)]
 pub struct Density {
     pub blocked: u64,
     pub events: u64,

@@ -6,7 +6,7 @@ use states::state::Task;
 use states::waiting::{awaits, event_of};
 
 // The blocked tasks; of these the lowest who awaits an event, which stands for it; and in its row all who await that event.
-#[derive(Drop)]
+#[derive(Clone, Copy)]
 pub struct Events {
     pub blocked: u32,
     pub first: u32,

@@ -35,17 +35,21 @@ over_carried low w x (value v next) = go (eqb v 0) refl
 
 module _ (low w : ℕ) (s : List ℕ) (at : ℕ) where
   pub over_ends : (left : ℕ) → 0 < left → length s ≤ at → refused ends_inside ≡ over low w (groups_at left s at)
+  over_ends zero h l = elim h [ ]
   over_ends (suc m) h l = rw (le-leb (length s) at l)
 
   pub over_zero : (left : ℕ) → 0 < left → at < length s → get_or s at 0 ≡ 0 → refused needless_group ≡ over low w (groups_at left s at)
+  over_zero zero h l e = elim h [ ]
   over_zero (suc m) h l e = rw (lt-leb (length s) at l, e)
 
   pub over_last : (left : ℕ) → 0 < left → at < length s → ¬ (get_or s at 0 ≡ 0) → get_or s at 0 < 128
       → value (low + get_or s at 0 * w) (at + 1) ≡ over low w (groups_at left s at)
+  over_last zero h l e b = elim h [ ]
   over_last (suc m) h l e b = rw (lt-leb (length s) at l, lt-ltb _ 128 b, ne_eqb _ 0 e)
 
   pub over_turn : (left : ℕ) → 0 < left → at < length s → 128 ≤ get_or s at 0
       → over (low + (get_or s at 0 - 128) * w) (w * 128) (groups_at (left - 1) s (at + 1)) ≡ over low w (groups_at left s at)
+  over_turn zero h l b = elim h [ ]
   over_turn (suc m) h l b =
       let e : suc m - 1 ≡ m = omega arith in
       rw (e, lt-leb (length s) at l, le-ltb (get_or s at 0) 128 b) (sym (over_carried low w (get_or s at 0 - 128) (groups_at m s (at + 1))))

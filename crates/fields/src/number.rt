@@ -7,7 +7,7 @@ use crate::figures::FURTHER;
 use answers::{ENDS_INSIDE, NEEDLESS_GROUP, NOT_RISING, TOO_LARGE};
 
 // A value and the next place, or the refusal.
-#[derive(Drop)]
+#[derive(Clone, Copy)]
 pub enum Number {
     Value(u64, usize),
     Refused(u32),

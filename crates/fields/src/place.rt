@@ -6,7 +6,7 @@ use crate::number::Number;
 use answers::BYTES_AFTER;
 
 // Where the reading goes on, or the refusal that ended it.
-#[derive(Drop)]
+#[derive(Clone, Copy)]
 pub enum Place {
     At(usize),
     Refused(u32),

@@ -16,7 +16,7 @@ use states::tests::{
 pub const KINDS: u64 = 10;
 
 // A call by the number of its kind, with numbers of any size. `other` is the target of an admit, or the stated phase of a wait.
-#[derive(Drop)]
+#[derive(Clone, Copy)]
 pub struct Call {
     pub kind: u64,
     pub task: u64,
@@ -24,7 +24,7 @@ pub struct Call {
     pub other: u64,
 }
 
-#[derive(Drop)]
+#[derive(Clone, Copy)]
 pub struct Called {
     pub answer: u32,
     pub value: u64,

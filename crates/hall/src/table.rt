@@ -4,7 +4,7 @@ ghost use Rattle.hall.specs.Table.{state_at, open_at, member_at, phase_at, fresh
 
 use states::state::{Phase, PhaserNo, State, Task, TaskNo};
 
-#[derive(Drop)]
+#[derive(Clone, Copy)]
 pub struct Table {
     pub tasks: [Task; 32],
     pub opened: [bool; 16],

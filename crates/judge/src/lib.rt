@@ -1,3 +1,5 @@
+#![tactic(auto)]
+
 // The judge over a table (document 01, 'Stuck' and 'The hall sheet'): three routes, one ring, a verdict.
 pub mod event_route;
 pub mod judge;

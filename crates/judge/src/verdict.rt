@@ -2,7 +2,7 @@ ghost use Rattle.std.specs.Prelude.{◌≡◌};
 ghost use Rattle.judge.specs.Verdict.{nobody};
 
 // What the strip would hold, with the answer.
-#[derive(Drop)]
+#[derive(Clone, Copy)]
 pub struct Verdict {
     pub answer: u32,
     pub named: u32,

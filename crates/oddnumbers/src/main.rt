@@ -1,3 +1,5 @@
+#![tactic(auto)]
+
 // Calls with odd numbers in each place: a line for each, `kind task phaser other answer value`.
 use hall::calls::{Call, KINDS};
 use hall::table::Table;

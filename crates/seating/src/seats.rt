@@ -6,7 +6,7 @@ use states::state::Task;
 use states::waiting::{column, event_of};
 
 // Some tasks; and for each phaser, those of them that are its members, and those whose event stands in its column.
-#[derive(Drop)]
+#[derive(Clone, Copy)]
 pub struct Seats {
     pub all: u32,
     pub members: [u32; 16],

@@ -10,7 +10,7 @@ use fields::place::{Place, after};
 use states::state::{Event, LARGEST_PHASE, Phase, PhaserNo, State, TaskNo};
 
 // A phaser and a phase: of a membership, or of the event that a blocked task awaits.
-#[derive(Drop)]
+#[derive(Clone, Copy)]
 pub struct ReadEvent {
     pub place: Place,
     pub event: Event,
@@ -60,7 +60,7 @@ fn event_at(sheet: &[u8], opened: &[bool; 16], floor: u64, at: usize) -> ReadEve
 }
 
 // A task's state.
-#[derive(Drop)]
+#[derive(Clone, Copy)]
 pub struct ReadState {
     pub place: Place,
     pub state: State,
@@ -105,14 +105,14 @@ fn state_on(sheet: &[u8], opened: &[bool; 16], at: usize) -> ReadState
 }
 
 // A task's number and state, and how many memberships follow.
-#[derive(Drop)]
+#[derive(Clone, Copy)]
 pub struct Entry {
     pub number: TaskNo,
     pub state: State,
     pub count: u64,
 }
 
-#[derive(Drop)]
+#[derive(Clone, Copy)]
 pub struct ReadEntry {
     pub place: Place,
     pub entry: Entry,
@@ -171,13 +171,13 @@ pub(crate) fn entry_at(sheet: &[u8], opened: &[bool; 16], floor: u64, at: usize)
     entry_on(sheet, opened, TaskNo(task), next)
 }
 
-#[derive(Drop)]
+#[derive(Clone, Copy)]
 pub struct Membership {
     pub phaser: PhaserNo,
     pub phase: Phase,
 }
 
-#[derive(Drop)]
+#[derive(Clone, Copy)]
 pub struct ReadMembership {
     pub place: Place,
     pub membership: Membership,

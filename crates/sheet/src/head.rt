@@ -10,7 +10,7 @@ use fields::number::Number;
 use fields::place::{Place, after};
 
 // The open phasers.
-#[derive(Drop)]
+#[derive(Clone, Copy)]
 pub struct ReadOpens {
     pub place: Place,
     pub opened: [bool; 16],
@@ -59,14 +59,14 @@ fn opens_at(sheet: &[u8], at: usize) -> ReadOpens
 }
 
 // What stands before the first task.
-#[derive(Drop)]
+#[derive(Clone, Copy)]
 pub struct Head {
     pub version: u64,
     pub opened: [bool; 16],
     pub count: u64,
 }
 
-#[derive(Drop)]
+#[derive(Clone, Copy)]
 pub struct ReadHead {
     pub place: Place,
     pub head: Head,

@@ -1,3 +1,5 @@
+#![tactic(auto)]
+
 // The reader of the hall sheet.
 mod entry;
 mod head;

@@ -1,3 +1,5 @@
+#![tactic(auto)]
+
 // A call on a sheet, for a C++ host: there a table is a sheet, so every call can be made on bytes.
 ghost use Rattle.std.specs.Prelude.{◌≡◌};
 ghost use Rattle.hall.specs.Calls.{call};

@@ -4,7 +4,7 @@ ghost use Rattle.sheet_file.specs.Counted.{CountedOf};
 use density::density::{Density, density_of};
 
 // The reader's answer, and the density of the sheet's table.
-#[derive(Drop)]
+#[derive(Clone, Copy)]
 pub struct Counted {
     pub answer: u32,
     pub density: Density,

@@ -14,7 +14,7 @@ pub const MOST_SHEETS: u64 = 1_000;
 pub const LARGEST_PIECE: usize = 4_099;
 
 // A sheet, from its first byte to the one after its last; a fault that stops the run; the file's end.
-#[derive(Drop)]
+#[derive(Clone, Copy)]
 pub enum Piece {
     Sheet(usize, usize),
     Stopped(u32),

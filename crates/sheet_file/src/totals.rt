@@ -7,7 +7,7 @@ use density::density::Density;
 use std::num::wrapping_add_u64;
 
 // How many sheets were accepted, and how many refused; the sums of the accepted ones' densities.
-#[derive(Drop)]
+#[derive(Clone, Copy)]
 pub struct Totals {
     pub sheets: u64,
     pub refused: u64,

@@ -1,3 +1,5 @@
+#![tactic(auto)]
+
 // Reads a file of sheets, each after its length, and prints how dense the graphs of each are, then the totals. The file is standard input, or the one
 // that is named by the argument. Of it no more is held than one sheet and its length.
 ghost use Rattle.std.specs.Prelude.{◌≡◌, false, ◌≤◌, length, take};

@@ -1,3 +1,5 @@
+#![tactic(auto)]
+
 // Reads a sheet from standard input, judges it by route 0 and prints the verdict: the answer and, if that is 0, the named tasks and the ring.
 ghost use Rattle.io.specs.Counts.{IsPrefixLen};
 

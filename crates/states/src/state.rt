@@ -5,29 +5,29 @@ ghost use Rattle.states.specs.State.{is_free, is_live, is_running, is_blocked};
 // "phases 0 to 65,535"
 pub const LARGEST_PHASE: u32 = 65_535;
 
-#[derive(Drop)]
+#[derive(Clone, Copy)]
 pub struct TaskNo(pub u64);
 
-#[derive(Drop)]
+#[derive(Clone, Copy)]
 pub struct PhaserNo(pub u64);
 
-#[derive(Drop)]
+#[derive(Clone, Copy)]
 pub struct Phase(pub u32);
 
-#[derive(Drop)]
+#[derive(Clone, Copy)]
 pub struct Event {
     pub phaser: PhaserNo,
     pub phase: Phase,
 }
 
-#[derive(Drop)]
+#[derive(Clone, Copy)]
 pub enum State {
     Free,
     Running,
     Blocked(Event),
 }
 
-#[derive(Drop)]
+#[derive(Clone, Copy)]
 pub struct Task {
     pub state: State,
 }

@@ -10,7 +10,7 @@ use answers::{
 };
 
 // What a row sees: whether the table is sound, the state of a task, whether a phaser is open, and the entry of the two.
-#[derive(Drop)]
+#[derive(Clone, Copy)]
 pub struct Seen {
     pub sound: bool,
     pub state: State,

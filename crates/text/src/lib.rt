@@ -1,3 +1,5 @@
+#![tactic(auto)]
+
 pub mod densities;
 pub mod text;
 pub mod verdict;

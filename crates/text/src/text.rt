@@ -4,7 +4,7 @@ ghost use Rattle.text.specs.Parts.{Adds};
 ghost use Rattle.text.specs.Text.{digits_of, numbered, text_with};
 
 // The bytes past `length` are 0.
-#[derive(Drop)]
+#[derive(Clone, Copy)]
 pub struct Text {
     pub bytes: [u8; 256],
     pub length: usize,

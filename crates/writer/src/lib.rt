@@ -1,3 +1,5 @@
+#![tactic(auto)]
+
 // The hall sheet, written.
 mod counts;
 mod entry;

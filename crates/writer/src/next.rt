@@ -9,7 +9,7 @@ use hall::calls::Call;
 use hall::table::Table;
 
 // What a call hands back beside the bytes of `next`. `length` is that of the next table's sheet.
-#[derive(Drop)]
+#[derive(Clone, Copy)]
 pub struct SheetCalled {
     pub answer: u32,
     pub value: u64,

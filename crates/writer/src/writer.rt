@@ -12,7 +12,7 @@ use answers::{DONE, NOT_SOUND, SHORT_BUFFER};
 use fields::figures::LONGEST_SHEET;
 use hall::table::Table;
 
-#[derive(Drop)]
+#[derive(Clone, Copy)]
 pub struct Written {
     pub answer: u32,
     pub value: u64,
