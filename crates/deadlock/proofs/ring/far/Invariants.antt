@@ -1,0 +1,11 @@
+-- The invariant: the steps that are left, from here, come to where all of them come from the start.
+use mathlib.Core.Path.{◌≡◌}
+use Prim.Native.Nat.{◌-◌}
+use Rattle.deadlock.specs.Parts.{go_of}
+use Rattle.deadlock.proofs.ring.far.Given as goal
+
+abbrev pub invariant-loop-step : goal.invariant-loop-step
+invariant-loop-step l = go_of l.next l.named l.from l.steps ≡ go_of l.next l.named l.task (l.steps - l.step)
+
+abbrev pub decreases-loop-step : goal.decreases-loop-step
+decreases-loop-step l = l.steps - l.step
