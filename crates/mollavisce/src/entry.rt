@@ -1,4 +1,4 @@
-// The verdict of a sheet, and the entry for a C++ host.
+// The verdict of a sheet, and the entry for a C++ host, which `mollavisce_c` exports.
 ghost use Rattle.mollavisce.specs.Entry.{Entered};
 ghost use Rattle.judge.specs.OfSheet.{VerdictOf};
 
@@ -14,8 +14,7 @@ pub fn verdict_of(bytes: &[u8], route: u64) -> Verdict
 }
 
 // One lent slice is read as the sheet, the other is written with 38 bytes where the answer is 0, and else with none.
-#[unsafe(no_mangle)]
-pub extern "C" fn sheet_verdict(sheet: &[u8], route: u64, strip: &mut [u8]) -> u32
+pub fn sheet_verdict(sheet: &[u8], route: u64, strip: &mut [u8]) -> u32
     ensures { Entered sheet.now route strip.old strip.new result }
 {
     if LARGEST_ROUTE < route {

@@ -26,6 +26,6 @@ pub(crate) fn lay(strip: &mut [u8], verdict: Verdict)
 {
     let head = head(verdict);
     let ring = verdict.ring;
-    bytes::copy(&head, strip);
-    bytes::copy(&ring, &mut strip[6..38]);
+    strip[..6].copy_from_slice(&head);
+    strip[6..38].copy_from_slice(&ring);
 }

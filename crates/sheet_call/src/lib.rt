@@ -1,6 +1,6 @@
 #![tactic(auto)]
 
-// A call on a sheet, for a C++ host: there a table is a sheet, so every call can be made on bytes.
+// A call on a sheet, for a C++ host: there a table is a sheet, so every call can be made on bytes. `sheet_call_c` exports it.
 ghost use Rattle.std.specs.Prelude.{◌≡◌};
 ghost use Rattle.hall.specs.Calls.{call};
 ghost use Rattle.hall.specs.Table.{fresh_table};
@@ -40,8 +40,7 @@ fn call_on(sheet: &[u8], call: Call, next: &mut [u8]) -> SheetCalled
 
 // One lent slice is read as the sheet of a table; where the call is accepted, the other then begins with the next table's sheet. `sort` is not looked at:
 // it is there for M-105.
-#[unsafe(no_mangle)]
-pub extern "C" fn sheet_call(
+pub fn sheet_call(
     sheet: &[u8],
     kind: u64,
     task: u64,

@@ -21,7 +21,7 @@ pub(crate) fn sheet() -> [u8; 243] {
     }
     for task in 0..32u8 {
         let at = 19 + task as usize * 7;
-        bytes::copy(&entry(task), &mut sheet[at..at + 7]);
+        sheet[at..at + 7].copy_from_slice(&entry(task));
     }
     sheet
 }
