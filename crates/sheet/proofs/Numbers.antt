@@ -139,6 +139,7 @@ front s at b l e = record {
 
 groups_read : (k n : ℕ) (s : List ℕ) (at : ℕ) (rest : List ℕ) → n < 128 ^ k → drop at s ≡ groups_of k n ++ rest → 0 < k
     → groups_at k s at ≡ value n (at + length (groups_of k n))
+groups_read zero n s at rest h e pos = elim pos [ ]
 groups_read (suc k) n s at rest h e pos = go (groups_read k (n / 128) s (at + 1) rest) (ltb n 128) refl
   where
     go : (n / 128 < 128 ^ k → drop (at + 1) s ≡ groups_of k (n / 128) ++ rest → 0 < k

@@ -1,5 +1,5 @@
 -- Going on with what was read.
-use Prim.Native.Nat.{ℕ, suc, ◌-◌, ◌<◌}
+use Prim.Native.Nat.{ℕ, zero, suc, ◌-◌, ◌<◌}
 use mathlib.Core.Path.{◌≡◌, refl, sym, ap, ◌∙◌}
 use native.Mathlib.Omega.{arith}
 use Rattle.fields.specs.Got.{Got, value, refused, onward, times, Rising, rising}
@@ -38,10 +38,12 @@ module _ {A : Type 0} (step : Rising A → ℕ → Got (Rising A)) (floor : ℕ)
   pub going_turn : (left : ℕ) {up next : ℕ} {b : A} → 0 < left → step (rising floor a) at ≡ value (rising up b) next
       → going step (left - 1) up b next ≡ going step left floor a at
   unfolding going
+  going_turn zero h e = elim h [ ]
   going_turn (suc m) h e = let z : suc m - 1 ≡ m = omega arith in rw (z, e)
 
   pub going_refused : (left : ℕ) {n : ℕ} → 0 < left → step (rising floor a) at ≡ refused n → refused n ≡ going step left floor a at
   unfolding going
+  going_refused zero h e = elim h [ ]
   going_refused (suc m) h e = rw e
 
   pub going_end : (left : ℕ) → left ≡ 0 → value a at ≡ going step left floor a at

@@ -93,6 +93,7 @@ high (x ∷ l) = leb 10 x && high l
 
 among_high : (n : ℕ) (l : List ℕ) → high l ≡ true → T (among n l) → 10 ≤ n
 unfolding high
+among_high n [] e h = elim h [ ]
 among_high n (x ∷ l) e h = go (eqb n x) refl h (among_high n l (and_right (leb 10 x) (high l) e))
   where
     go : (b : Bool) → eqb n x ≡ b → T (b || among n l) → (T (among n l) → 10 ≤ n) → 10 ≤ n
