@@ -1,0 +1,18 @@
+use native.Mathlib.Omega.{arith}
+use Rattle.writer.proofs.Laying.{laid_none, laid_both}
+use Rattle.writer.proofs.Putting.{number_ready}
+use Rattle.writer.specs.Parts.{if_there}
+use Rattle.writer.proofs.entry.put_membership.Goals as goal
+
+pub put-requires : goal.put-requires
+put-requires c =
+    number_ready _ 65536 c.put-phased.ensures c.requires.0 (omega (arith, c.requires.1))
+
+pub returns-then-member : goal.returns-then-member
+unfolding if_there
+returns-then-member c =
+    rw c.if-member.true (laid_both c.put-phased.ensures c.put.ensures)
+
+pub returns-else-member : goal.returns-else-member
+unfolding if_there
+returns-else-member c = rw c.if-member.false (laid_none _ _ _)
