@@ -3,6 +3,7 @@
 // Calls with odd numbers in each place: a line for each, `kind task phaser other answer value`.
 use hall::calls::{Call, KINDS};
 use hall::table::Table;
+use std::io;
 
 // Numbers at and past the edges of tasks, phasers, phases, and of narrower widths than theirs.
 const ODD: [u64; 15] = [
@@ -64,25 +65,31 @@ fn fixed() -> Table {
     after(after(met, 8, 15, 0, 1), 5, 0, 15, 0)
 }
 
-fn number(n: u64) {
-    io::print_decimal(1, n);
-    io::write_all(1, b" ");
+fn number(rt: &HostRuntime, n: u64) -> io::Result<()> {
+    print!(rt; "{n} ")
 }
 
-fn line(table: Table, kind: u64, task: u64, phaser: u64, other: u64) {
+fn line(
+    rt: &HostRuntime,
+    table: Table,
+    kind: u64,
+    task: u64,
+    phaser: u64,
+    other: u64,
+) -> io::Result<()> {
     let called = table.call(Call {
         kind,
         task,
         phaser,
         other,
     });
-    number(kind);
-    number(task);
-    number(phaser);
-    number(other);
-    number(called.answer as u64);
-    io::print_decimal(1, called.value);
-    io::write_all(1, b"\n");
+    number(rt, kind)?;
+    number(rt, task)?;
+    number(rt, phaser)?;
+    number(rt, other)?;
+    number(rt, called.answer as u64)?;
+    let value = called.value;
+    println!(rt; "{value}")
 }
 
 fn pick(odd: u64, here: bool, number: u64) -> u64 {
@@ -90,40 +97,57 @@ fn pick(odd: u64, here: bool, number: u64) -> u64 {
 }
 
 // A line for each odd number in one place, beside the numbers given in the others.
-fn place_lines(table: Table, place: u64, kind: u64, task: u64, phaser: u64, other: u64) {
+fn place_lines(
+    rt: &HostRuntime,
+    table: Table,
+    place: u64,
+    kind: u64,
+    task: u64,
+    phaser: u64,
+    other: u64,
+) -> io::Result<()> {
     let mut i: usize = 0;
     while i < 15 {
         let odd = ODD[i];
         line(
+            rt,
             table,
             pick(odd, place == KIND, kind),
             pick(odd, place == TASK, task),
             pick(odd, place == PHASER, phaser),
             pick(odd, place == OTHER, other),
-        );
+        )?;
         i += 1;
     }
+    Ok(())
 }
 
-fn kind_lines(table: Table, kind: u64, task: u64, phaser: u64, other: u64) {
-    place_lines(table, TASK, kind, task, phaser, other);
-    place_lines(table, PHASER, kind, task, phaser, other);
-    place_lines(table, OTHER, kind, task, phaser, other);
+fn kind_lines(
+    rt: &HostRuntime,
+    table: Table,
+    kind: u64,
+    task: u64,
+    phaser: u64,
+    other: u64,
+) -> io::Result<()> {
+    place_lines(rt, table, TASK, kind, task, phaser, other)?;
+    place_lines(rt, table, PHASER, kind, task, phaser, other)?;
+    place_lines(rt, table, OTHER, kind, task, phaser, other)
 }
 
 // Each kind beside numbers that it accepts, and a kind that there is not.
-fn main() {
+fn main(rt: HostRuntime) -> io::Result<()> {
     let table = fixed();
-    kind_lines(table, 0, 0, 0, 0);
-    kind_lines(table, 1, 0, 0, 0);
-    kind_lines(table, 2, 0, 0, 0);
-    kind_lines(table, 3, 0, 15, 0);
-    kind_lines(table, 4, 0, 0, 31);
-    kind_lines(table, 5, 0, 0, 0);
-    kind_lines(table, 6, 0, 0, 0);
-    kind_lines(table, 7, 0, 2, 0);
-    kind_lines(table, 8, 0, 0, 1);
-    kind_lines(table, 9, 1, 0, 0);
-    kind_lines(table, KINDS, 0, 0, 0);
-    place_lines(table, KIND, 0, 0, 0, 31);
+    kind_lines(&rt, table, 0, 0, 0, 0)?;
+    kind_lines(&rt, table, 1, 0, 0, 0)?;
+    kind_lines(&rt, table, 2, 0, 0, 0)?;
+    kind_lines(&rt, table, 3, 0, 15, 0)?;
+    kind_lines(&rt, table, 4, 0, 0, 31)?;
+    kind_lines(&rt, table, 5, 0, 0, 0)?;
+    kind_lines(&rt, table, 6, 0, 0, 0)?;
+    kind_lines(&rt, table, 7, 0, 2, 0)?;
+    kind_lines(&rt, table, 8, 0, 0, 1)?;
+    kind_lines(&rt, table, 9, 1, 0, 0)?;
+    kind_lines(&rt, table, KINDS, 0, 0, 0)?;
+    place_lines(&rt, table, KIND, 0, 0, 0, 31)
 }

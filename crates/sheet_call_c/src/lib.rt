@@ -23,7 +23,5 @@ pub extern "C" fn sheet_call(
     ensures { hands_over result value.new length.new next.new
         ≡ sheet_call_of sheet.now (call kind task phaser other) next.old }
 {
-    sheet_call::sheet_call(
-        sheet, kind, task, phaser, other, sort, next, value, length,
-    )
+    sheet_call::sheet_call(sheet, kind, task, phaser, other, sort, next, value, length)
 }

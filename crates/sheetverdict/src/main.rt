@@ -1,10 +1,12 @@
 #![tactic(auto)]
 
 // Reads a sheet from standard input, judges it by route 0 and prints the verdict: the answer and, if that is 0, the named tasks and the ring.
-ghost use Rattle.io.specs.Counts.{IsPrefixLen};
+ghost use Rattle.std.specs.Counts.{IsPrefixLen};
 
 use demands::sheets::text_of;
 use fields::figures::SETTLING_BYTES;
+use std::env::{Env, FillError};
+use std::io::Read;
 
 // How many bytes were read, up to the input's end or as far as there is room for them, and whether a read failed.
 #[derive(Drop)]
@@ -13,16 +15,14 @@ struct Input {
     failed: bool,
 }
 
-fn read_input(bytes: &mut [u8]) -> Input
+fn read_input(rt: &HostRuntime, bytes: &mut [u8]) -> Input
     ensures { IsPrefixLen result.read bytes.new }
 {
     let mut read: usize = 0;
     while read < bytes.len() {
-        let got = libc::read(0, &mut bytes[read..]);
-        if got < 0 {
+        let Ok(more) = rt.stdin().read(&mut bytes[read..]) else {
             return Input { read, failed: true };
-        }
-        let more = io::count(got, &bytes[read..]);
+        };
         if more == 0 {
             break;
         }
@@ -35,26 +35,30 @@ fn read_input(bytes: &mut [u8]) -> Input
 }
 
 // What is printed is what the demands speak of: the text of the sheet's verdict, in one write.
-fn print(sheet: &[u8]) {
+fn print(rt: &HostRuntime, sheet: &[u8]) {
     let text = text_of(sheet);
     let bytes = text.bytes;
     let length = text.length;
-    if !io::write_all(1, &bytes[..length]) {
-        io::write_all(2, b"sheetverdict: standard output cannot be written\n");
+    if rt.write_all(&bytes[..length]).is_err() {
+        let _ = eprintln!(rt; "sheetverdict: standard output cannot be written");
     }
 }
 
-fn main() {
-    if os::arg_count() > 1 {
-        io::write_all(2, b"usage: sheetverdict < SHEET\n");
+fn has_argument(rt: &HostRuntime) -> bool {
+    !matches!(rt.arg(1, &mut []), Err(FillError::NotPresent))
+}
+
+fn main(rt: HostRuntime) {
+    if has_argument(&rt) {
+        let _ = eprintln!(rt; "usage: sheetverdict < SHEET");
         return;
     }
     let mut bytes = [0u8; SETTLING_BYTES];
-    let input = read_input(&mut bytes);
+    let input = read_input(&rt, &mut bytes);
     if input.failed {
-        io::write_all(2, b"sheetverdict: standard input cannot be read\n");
+        let _ = eprintln!(rt; "sheetverdict: standard input cannot be read");
         return;
     }
     let read = input.read;
-    print(&bytes[..read]);
+    print(&rt, &bytes[..read]);
 }

@@ -8,8 +8,10 @@ mod output;
 mod texts;
 mod unsound;
 
-fn main() {
-    texts::lines();
-    entry::lines();
-    unsound::lines();
+use std::io;
+
+fn main(rt: HostRuntime) -> io::Result<()> {
+    texts::lines(&rt)?;
+    entry::lines(&rt)?;
+    unsound::lines(&rt)
 }

@@ -1,8 +1,9 @@
-pub(crate) fn number(n: u64) {
-    io::write_all(1, b" ");
-    io::print_decimal(1, n);
+use std::io;
+
+pub(crate) fn number(rt: &HostRuntime, n: u64) -> io::Result<()> {
+    print!(rt; " {n}")
 }
 
-pub(crate) fn end() {
-    io::write_all(1, b"\n");
+pub(crate) fn end(rt: &HostRuntime) -> io::Result<()> {
+    println!(rt; "")
 }

@@ -6,13 +6,14 @@ use hall::calls::{Call, KINDS};
 use hall::table::Table;
 use judge::judge::{LARGEST_ROUTE, judge};
 use states::state::{Event, Phase, PhaserNo, State, Task};
+use std::io;
 
 // The judge by each route; then each kind of call, and a kind that there is not.
-fn line(table: Table) {
-    io::write_all(1, b"table");
+fn line(rt: &HostRuntime, table: Table) -> io::Result<()> {
+    print!(rt; "table")?;
     for route in 0..=LARGEST_ROUTE {
         let verdict = judge(table, route);
-        number(verdict.answer as u64);
+        number(rt, verdict.answer as u64)?;
     }
     for kind in 0..=KINDS {
         let called = table.call(Call {
@@ -21,9 +22,9 @@ fn line(table: Table) {
             phaser: 0,
             other: 0,
         });
-        number(called.answer as u64);
+        number(rt, called.answer as u64)?;
     }
-    end();
+    end(rt)
 }
 
 // A sound table: task 0 runs, a member of phaser 0 at the largest phase; nothing else is there.
@@ -68,18 +69,18 @@ fn blocked(phaser: u64, phase: u32) -> State {
     })
 }
 
-pub(crate) fn lines() {
-    line(sound());
+pub(crate) fn lines(rt: &HostRuntime) -> io::Result<()> {
+    line(rt, sound())?;
     // "every member is a live task (running or blocked)"
-    line(with_state(0, State::Free));
+    line(rt, with_state(0, State::Free))?;
     // "of an open phaser"
-    line(without_phaser());
+    line(rt, without_phaser())?;
     // "every awaited phaser is open"
-    line(with_state(1, blocked(1, 1)));
-    line(with_state(1, blocked(16, 1)));
+    line(rt, with_state(1, blocked(1, 1)))?;
+    line(rt, with_state(1, blocked(16, 1)))?;
     // "no phase, kept or awaited, is over 65,535"
-    line(with_phase(0, 65_536));
-    line(with_state(1, blocked(0, 65_536)));
+    line(rt, with_phase(0, 65_536))?;
+    line(rt, with_state(1, blocked(0, 65_536)))?;
     // "a non-member's kept phase is 0"
-    line(with_phase(1, 1));
+    line(rt, with_phase(1, 1))
 }

@@ -4,6 +4,7 @@ ghost use Rattle.std.specs.Prelude.{◌<◌};
 use crate::lines::table_lines;
 use hall::table::Table;
 use states::state::{Event, Phase, PhaserNo, State, Task};
+use std::io;
 
 fn opens(table: Table, phaser: usize) -> Table
     requires { phaser < 16 }
@@ -100,17 +101,17 @@ fn p11() -> Table {
     table
 }
 
-pub(crate) fn lines() {
-    table_lines(1, Table::fresh(), true);
-    table_lines(2, joins(one(1), 0, 0, 0), true);
-    table_lines(3, p3(), true);
-    table_lines(4, p4(0), true);
-    table_lines(5, p4(1), true);
-    table_lines(6, p6(), true);
-    table_lines(7, joins(joins(runs(p7(), 2), 2, 0, 0), 2, 1, 0), true);
-    table_lines(8, p8(), true);
-    table_lines(9, p9(), true);
-    table_lines(10, p10(65_534), true);
-    table_lines(11, p10(65_535), true);
-    table_lines(12, p11(), true);
+pub(crate) fn lines(rt: &HostRuntime) -> io::Result<()> {
+    table_lines(rt, 1, Table::fresh(), true)?;
+    table_lines(rt, 2, joins(one(1), 0, 0, 0), true)?;
+    table_lines(rt, 3, p3(), true)?;
+    table_lines(rt, 4, p4(0), true)?;
+    table_lines(rt, 5, p4(1), true)?;
+    table_lines(rt, 6, p6(), true)?;
+    table_lines(rt, 7, joins(joins(runs(p7(), 2), 2, 0, 0), 2, 1, 0), true)?;
+    table_lines(rt, 8, p8(), true)?;
+    table_lines(rt, 9, p9(), true)?;
+    table_lines(rt, 10, p10(65_534), true)?;
+    table_lines(rt, 11, p10(65_535), true)?;
+    table_lines(rt, 12, p11(), true)
 }

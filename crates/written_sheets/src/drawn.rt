@@ -4,6 +4,7 @@ use crate::fault::with_fault;
 use crate::lines::table_lines;
 use hall::table::Table;
 use states::state::{Event, Phase, PhaserNo, State, Task};
+use std::io;
 
 // Each phaser open by a share of 256, but for one.
 fn opened(state: &mut u64, share: u64, shut: usize) -> [bool; 16] {
@@ -78,11 +79,12 @@ fn drawn(state: &mut u64, number: u64) -> Table {
     with_fault(table, number / 8 % 9, absent, shut)
 }
 
-pub(crate) fn lines() {
+pub(crate) fn lines(rt: &HostRuntime) -> io::Result<()> {
     let mut state: u64 = 1;
     let mut number: u64 = 14;
     while number < 214 {
-        table_lines(number, drawn(&mut state, number), true);
+        table_lines(rt, number, drawn(&mut state, number), true)?;
         number += 1;
     }
+    Ok(())
 }

@@ -2,6 +2,7 @@
 ghost use Rattle.std.specs.Prelude.{◌<◌, ◌≤◌};
 
 use hall::table::Table;
+use std::io;
 use writer::writer::{Written, write};
 
 // A buffer before a write: no byte is like its neighbours.
@@ -32,71 +33,79 @@ fn sum(bytes: &[u8; 2300]) -> u64 {
     sum
 }
 
-fn number(n: u64) {
-    io::write_all(1, b" ");
-    io::print_decimal(1, n);
+fn number(rt: &HostRuntime, n: u64) -> io::Result<()> {
+    print!(rt; " {n}")
 }
 
 // A write into the first `length` bytes. The sum is over all 2,300.
-fn line(table_number: u64, table: Table, length: usize) -> Written
+fn line(rt: &HostRuntime, table_number: u64, table: Table, length: usize) -> io::Result<Written>
     requires { length ≤ 2300 }
 {
     let mut bytes = pattern();
     let written = write(table, &mut bytes[..length]);
-    io::print_decimal(1, table_number);
-    number(length as u64);
-    number(written.answer as u64);
-    number(written.value);
-    number(sum(&bytes));
-    io::write_all(1, b"\n");
-    written
+    print!(rt; "{table_number}")?;
+    number(rt, length as u64)?;
+    number(rt, written.answer as u64)?;
+    number(rt, written.value)?;
+    number(rt, sum(&bytes))?;
+    println!(rt; "")?;
+    Ok(written)
 }
 
 // Bytes in hex, from a place to before another.
-fn print_bytes(bytes: &[u8; 2300], from: usize, end: usize)
+fn print_bytes(rt: &HostRuntime, bytes: &[u8; 2300], from: usize, end: usize) -> io::Result<()>
     requires { end ≤ 2300 }
 {
     let mut i = from;
     while i < end {
-        io::print_hex(1, wide(bytes[i]), 2);
+        let byte = wide(bytes[i]);
+        print!(rt; "{byte:02x}")?;
         i += 1;
     }
+    Ok(())
 }
 
 // The sheet, and the four bytes after it.
-fn sheet_line(table: Table, length: usize)
+fn sheet_line(rt: &HostRuntime, table: Table, length: usize) -> io::Result<()>
     requires { length ≤ 2296 }
 {
     let mut bytes = pattern();
     write(table, &mut bytes);
-    print_bytes(&bytes, 0, length);
-    io::write_all(1, b" ");
-    print_bytes(&bytes, length, length + 4);
-    io::write_all(1, b"\n");
+    print_bytes(rt, &bytes, 0, length)?;
+    print!(rt; " ")?;
+    print_bytes(rt, &bytes, length, length + 4)?;
+    println!(rt; "")
 }
 
 // Writes into buffers about as long as the sheet, or into none after a refusal.
-fn short_lines(table_number: u64, table: Table, length: usize)
+fn short_lines(rt: &HostRuntime, table_number: u64, table: Table, length: usize) -> io::Result<()>
     requires { length ≤ 2296 }
 {
     if length == 0 {
-        line(table_number, table, 0);
-        return;
+        line(rt, table_number, table, 0)?;
+        return Ok(());
     }
-    line(table_number, table, length - 1);
-    line(table_number, table, length);
-    line(table_number, table, length + 1);
+    line(rt, table_number, table, length - 1)?;
+    line(rt, table_number, table, length)?;
+    line(rt, table_number, table, length + 1)?;
+    Ok(())
 }
 
 // All lines of a table, with its sheet or without.
-pub(crate) fn table_lines(table_number: u64, table: Table, with_sheet: bool) {
-    let written = line(table_number, table, 2300);
+pub(crate) fn table_lines(
+    rt: &HostRuntime,
+    table_number: u64,
+    table: Table,
+    with_sheet: bool,
+) -> io::Result<()> {
+    let written = line(rt, table_number, table, 2300)?;
     let value = written.value;
     // every sheet has room in 2,296
     if value <= 2296 {
         if with_sheet & (0 < value) {
-            sheet_line(table, value as usize);
+            sheet_line(rt, table, value as usize)?;
         }
-        short_lines(table_number, table, value as usize);
+        short_lines(rt, table_number, table, value as usize)?;
     }
+    Ok(())
 }

@@ -11,8 +11,10 @@ mod fault;
 mod lines;
 mod longest;
 
-fn main() {
-    bench::lines();
-    lines::table_lines(13, longest::table(), false);
-    drawn::lines();
+use std::io;
+
+fn main(rt: HostRuntime) -> io::Result<()> {
+    bench::lines(&rt)?;
+    lines::table_lines(&rt, 13, longest::table(), false)?;
+    drawn::lines(&rt)
 }
