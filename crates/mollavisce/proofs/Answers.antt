@@ -16,7 +16,7 @@ use Rattle.sheet.proofs.Theorems.{accepts, answers}
 use Rattle.judge.specs.Routes.{largest_route}
 use Rattle.mollavisce.specs.Entry.{Entered, entry_answers}
 use Rattle.judge.specs.OfSheet.{VerdictOf}
-use Rattle.mollavisce.proofs.Entered.{Way, no_route, short, reached, way}
+use Rattle.mollavisce.proofs.Entered.{Way, route_unknown, short, reached, way}
 
 module _ (sheet : List ℕ) (bytes : Bytes sheet) (route : ℕ) where
   pub judged_answer : (v : Verdict) → route ≤ largest_route → VerdictOf sheet route v → v.answer ≡ (sheet_at sheet).answer
@@ -39,7 +39,7 @@ module _ (sheet : List ℕ) (bytes : Bytes sheet) (route : ℕ) where
         more false false c h = h
 
         go : Way sheet route before after answer → T (among answer entry_answers)
-        go (no_route l a s) = rw a tt
+        go (route_unknown l a s) = rw a tt
         go (short l m a s) = rw a tt
         go (reached r) =
             rw (r.answers ∙ judged_answer r.verdict r.route_there r.judged)

@@ -1,0 +1,38 @@
+-- 41, then 40, both with the strip as it was; then the verdict's answer, and its bytes where that is 0.
+use mathlib.Core.Path.{◌≡◌, refl, sym}
+use native.Mathlib.Omega.{arith}
+use borrow.Author.Rules.{rules}
+use borrow.Author.Tests.{eq-eqb, ne_eqb}
+use Rattle.answers.specs.Answers.{done}
+use Rattle.mollavisce.specs.Strip.{strip_after}
+use Rattle.mollavisce.proofs.Fits.{sheet_fits}
+use Rattle.mollavisce.proofs.entry.sheet_verdict.Goals as goal
+
+pub returns-then-answer-ne0 : goal.returns-then-answer-ne0
+unfolding strip_after
+returns-then-answer-ne0 c =
+    record {
+      no_route = λ l. absurd (omega (arith, l, c.if-route-gt-LARGEST_ROUTE.false));
+      short = λ _ l. absurd (omega (arith, l, c.if-strip-lt38.false));
+      judged = λ _ _.
+          let v = c.verdict_of-verdict in
+          let refused : v.result.answer ≡ done → ⊥ = λ e. omega (arith, e, c.if-answer-ne0.true) in
+          (v.result, v.ensures, refl, rw (ne_eqb v.result.answer done refused) refl);
+    }
+
+pub lay-requires : goal.lay-requires
+lay-requires c =
+    let v = c.verdict_of-verdict in
+    let fits = sheet_fits _ _ v.result v.ensures (omega (arith, c.if-answer-ne0.false)) in
+    (search rules, fits.count, fits.ring_length)
+
+pub returns : goal.returns
+unfolding strip_after
+returns c =
+    let v = c.verdict_of-verdict in
+    let answered : v.result.answer ≡ done = omega (arith, c.if-answer-ne0.false) in
+    record {
+      no_route = λ l. absurd (omega (arith, l, c.if-route-gt-LARGEST_ROUTE.false));
+      short = λ _ l. absurd (omega (arith, l, c.if-strip-lt38.false));
+      judged = λ _ _. (v.result, v.ensures, sym answered, rw (eq-eqb _ done answered) c.lay.ensures);
+    }
