@@ -22,7 +22,7 @@ use Rattle.mollavisce.specs.Entry.{Entered}
 use Rattle.judge.specs.OfSheet.{VerdictOf}
 use Rattle.mollavisce.specs.Strip.{head_of, strip_of, strip_after, verdict_in}
 use Rattle.mollavisce.proofs.Answers.{judged_answer, entry_answers_lem}
-use Rattle.mollavisce.proofs.Entered.{Way, no_route, short, reached, way, refused_kept}
+use Rattle.mollavisce.proofs.Entered.{Way, route_unknown, short, reached, way, refused_kept}
 use Rattle.mollavisce.proofs.Fits.{sheet_fits}
 use Rattle.mollavisce.proofs.ReadBack.{entered_judged}
 use Rattle.demands.specs.Demands.{SheetOfSound, OfSheet, NamesTheStuck, MeansNever, SheetRead, TableJudged, SheetVerdict, SheetAnswered}
@@ -31,6 +31,7 @@ use Rattle.demands.proofs.Verdicts.{table_judged}
 use Rattle.judge.specs.Routes.{largest_route}
 
 holds_true : (b : Bool) → T b → b ≡ true
+holds_true false h = elim h [ ]
 holds_true true h = refl
 
 pub later : (b : Bool) {c : Bool} → c ≡ true → b || c ≡ true
@@ -149,21 +150,21 @@ module _ (sheet : List ℕ) (bytes : Bytes sheet) (route : ℕ) (before after : 
       judged e = entered_judged sheet route before after (subst (Entered sheet route before after) e x)
 
       no_such : answer ≡ no_route → Way sheet route before after answer → largest_route < route
-      no_such e (no_route l a s) = l
+      no_such e (route_unknown l a s) = l
       no_such e (short l m a s) = absurd (omega arith)
       no_such e (reached r) = absurd (no_answer sheet bytes no_route refl (sym (fault r.route_there r.long) ∙ e))
 
       too_short : answer ≡ short_strip → Way sheet route before after answer → (route ≤ largest_route) × (length before < 38)
-      too_short e (no_route l a s) = absurd (omega arith)
+      too_short e (route_unknown l a s) = absurd (omega arith)
       too_short e (short l m a s) = (l, m)
       too_short e (reached r) = absurd (no_answer sheet bytes short_strip refl (sym (fault r.route_there r.long) ∙ e))
 
       good : answer ≡ done → Way sheet route before after answer → (route ≤ largest_route) × (38 ≤ length before) × SheetOfSound sheet
-      good e (no_route l a s) = absurd (omega arith)
+      good e (route_unknown l a s) = absurd (omega arith)
       good e (short l m a s) = absurd (omega arith)
       good e (reached r) = (r.route_there, r.long, accepted_sound sheet bytes (sym (fault r.route_there r.long) ∙ e))
 
       rest : Way sheet route before after answer → drop 38 after ≡ drop 38 before
-      rest (no_route l a s) = ap (drop 38) s
+      rest (route_unknown l a s) = ap (drop 38) s
       rest (short l m a s) = ap (drop 38) s
       rest (reached r) = ap (drop 38) r.strip ∙ rest_kept r.verdict before (λ e. (sheet_fits sheet route r.verdict r.judged e).places)

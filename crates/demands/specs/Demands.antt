@@ -3,7 +3,7 @@
 use Rattle.std.specs.Prelude.{◌≡◌, ◌↔◌, true, List, [], ◌∷◌, ℕ, ◌<◌, ◌≤◌, length, drop, take}
 use Rattle.sets.specs.Set.{Has, size}
 use Rattle.deadlock.specs.Ring.{RingIn}
-use Rattle.answers.specs.Answers.{done, no_kind, not_sound, among, no_route, short_strip, short_buffer}
+use Rattle.answers.specs.Answers.{done, no_kind, not_sound as table_unsound, among, no_route as no_such_route, short_strip, short_buffer}
 use Rattle.hall.specs.Answers.{answers_of}
 use Rattle.hall.specs.Rules.{PhaserMap}
 use Rattle.hall.specs.Sound.{Sound}
@@ -63,7 +63,7 @@ pub record CallAnswered (t : Table) (c : Call) (r : Called) : Type 0 where
   pub is : r ≡ call_of t c
   -- "its own number": 42 exactly where there is no such kind; 44 exactly where there is one and the table is not sound; else a number of the kind's row
   pub no_kind : (r.answer ≡ no_kind) ↔ (kind_count ≤ c.kind)
-  pub not_sound : (r.answer ≡ not_sound) ↔ ((c.kind < kind_count) × (Sound t → ⊥))
+  pub not_sound : (r.answer ≡ table_unsound) ↔ ((c.kind < kind_count) × (Sound t → ⊥))
   pub own : c.kind < kind_count → Sound t → among r.answer (answers_of c.kind) ≡ true
   -- "and a value of 0, the table stays as it stood"
   pub refusal : 10 ≤ r.answer → (r.value ≡ 0) × (r.table ≡ t)
@@ -89,7 +89,7 @@ pub record SheetRead (sheet : List ℕ) (answer : ℕ) (t : Table) : Type 0 wher
 pub record TableWritten (t : Table) (before : List ℕ) (answer value : ℕ) (after : List ℕ) : Type 0 where
   pub is : wrote answer value after ≡ write_of t before
   -- "its own number": "44 as in 01, then 43 if the buffer is shorter than the sheet"
-  pub not_sound : (answer ≡ not_sound) ↔ (Sound t → ⊥)
+  pub not_sound : (answer ≡ table_unsound) ↔ (Sound t → ⊥)
   pub short : (answer ≡ short_buffer) ↔ (Sound t × (length before < length (sheet_of t)))
   pub accepted : (answer ≡ done) ↔ (Sound t × (length (sheet_of t) ≤ length before))
   -- "and a value of 0 .. and not one byte .. moves"
@@ -141,10 +141,10 @@ pub record RoutesAgree (t : Table) (tasks events : ℕ) : Type 0 where
 -- the judge's, of a table by a route: "A judge over a table tests 41, then 44; .. on a refusal the verdict of nobody." (document 01)
 pub record TableJudged (t : Table) (route : ℕ) (v : Verdict) : Type 0 where
   pub is : Judged t route v
-  pub no_route : (v.answer ≡ no_route) ↔ (largest_route < route)
-  pub not_sound : (v.answer ≡ not_sound) ↔ ((route ≤ largest_route) × (Sound t → ⊥))
+  pub no_route : (v.answer ≡ no_such_route) ↔ (largest_route < route)
+  pub not_sound : (v.answer ≡ table_unsound) ↔ ((route ≤ largest_route) × (Sound t → ⊥))
   pub accepted : (v.answer ≡ done) ↔ ((route ≤ largest_route) × Sound t)
-  pub own : among v.answer (done ∷ no_route ∷ not_sound ∷ []) ≡ true
+  pub own : among v.answer (done ∷ no_such_route ∷ table_unsound ∷ []) ≡ true
   pub refusal : (v.answer ≡ done → ⊥) → v ≡ nobody v.answer
   pub names : v.answer ≡ done → NamesTheStuck t v
   pub never : v.answer ≡ done → MeansNever t v
@@ -156,10 +156,10 @@ OfSheet sheet P = (t : Table) → Shaped t → Sound t → sheet ≡ sheet_of t 
 -- a sheet's, by a route: 41, then the sheet's own fault
 pub record SheetVerdict (sheet : List ℕ) (route : ℕ) (v : Verdict) : Type 0 where
   pub is : VerdictOf sheet route v
-  pub no_route : (v.answer ≡ no_route) ↔ (largest_route < route)
+  pub no_route : (v.answer ≡ no_such_route) ↔ (largest_route < route)
   pub accepted : (v.answer ≡ done) ↔ ((route ≤ largest_route) × SheetOfSound sheet)
   pub fault : route ≤ largest_route → v.answer ≡ (sheet_at sheet).answer
-  pub own : among v.answer (no_route ∷ sheet_answers) ≡ true
+  pub own : among v.answer (no_such_route ∷ sheet_answers) ≡ true
   pub refusal : (v.answer ≡ done → ⊥) → v ≡ nobody v.answer
   pub names : v.answer ≡ done → OfSheet sheet (λ t. NamesTheStuck t v)
   pub never : v.answer ≡ done → OfSheet sheet (λ t. MeansNever t v)
@@ -167,7 +167,7 @@ pub record SheetVerdict (sheet : List ℕ) (route : ℕ) (v : Verdict) : Type 0 
 -- the entry's, of a sheet by a route, as it stands in the strip: "Tests: 41, 40, then the sheet." (document 01)
 pub record SheetAnswered (sheet : List ℕ) (route : ℕ) (before after : List ℕ) (answer : ℕ) : Type 0 where
   pub is : Entered sheet route before after answer
-  pub no_route : (answer ≡ no_route) ↔ (largest_route < route)
+  pub no_route : (answer ≡ no_such_route) ↔ (largest_route < route)
   pub short : (answer ≡ short_strip) ↔ ((route ≤ largest_route) × (length before < 38))
   pub accepted : (answer ≡ done) ↔ ((route ≤ largest_route) × (38 ≤ length before) × SheetOfSound sheet)
   pub fault : route ≤ largest_route → 38 ≤ length before → answer ≡ (sheet_at sheet).answer

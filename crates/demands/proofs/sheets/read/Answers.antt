@@ -1,0 +1,7 @@
+-- A lent slice holds bytes: so the demands hold of what the reader hands back.
+use Rattle.demands.proofs.OfSheets.{sheet_read}
+use Rattle.demands.proofs.sheets.read.Goals as goal
+
+pub returns : goal.returns
+returns c =
+    sheet_read c.args.sheet.now (λ i. (c.shared_slice_known-1.given i).fits) _ c.read.result c.read.ensures
