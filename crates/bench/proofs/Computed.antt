@@ -166,8 +166,10 @@ x then y = (x, y)
 computed : Each Computes rows
 unfolding rows p2 p3 p4 p5 p6 p7 p8 p9 figure2 section2_4 example4_1 example4_1_before example4_2 example4_3 stated_of judge_of sound_of
     entries_sound states_sound every state_at open_at member_at phase_at fresh_table with_state with_entry with_open named_in named_of clear rows_of places
-    mask_of impedes_of event_of round_in ring_in ring_of nexts_of ring_from step_of go_of low_of once_of count_trailing_zeros size density_in count_of pairs_of stands_at impedes_at
-    joined_at impeder_at awaits_of same_of call_of arrive_of wait_at_of ruled refusal_of arrive_tests wait_at_tests member_tests caller_tests number_at plain_at
+    mask_of impedes_of event_of round_in ring_in ring_of nexts_of ring_from step_of go_of low_of once_of count_trailing_zeros size density_in count_of
+    pairs_of stands_at impedes_at
+    joined_at impeder_at awaits_of same_of call_of arrive_of wait_at_of ruled refusal_of arrive_tests wait_at_tests member_tests caller_tests number_at
+    plain_at
 computed =
     refl then refl then refl then refl then refl then refl then refl then refl then refl then refl then refl then refl then refl then refl then refl
     then refl then refl then refl then (tt, refl, refl) then (tt, refl, refl) then (tt, refl, refl)

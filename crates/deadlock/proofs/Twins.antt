@@ -90,7 +90,8 @@ module _ (next : List ℕ) (m : ℕ) (f : m < 2 ^ 32) (p : 0 < m) (closed : (t :
   unfolding ring_of
   ring_of_ring =
       let n = size m 32 in
-      ring_from_lem next m f (count_trailing_zeros 32 m) (trailing_lowest m f) n (omega arith) (has_lt 32 m (go_of next m (count_trailing_zeros 32 m) n) f (go_inside n))
+      ring_from_lem next m f (count_trailing_zeros 32 m) (trailing_lowest m f) n (omega arith)
+      (has_lt 32 m (go_of next m (count_trailing_zeros 32 m) n) f (go_inside n))
 
 -- ---- the ring, from rows of edges: the lowest of row t that is named stands at the place of t
 unfoldable pub nexts_of : List ℕ → ℕ → List ℕ

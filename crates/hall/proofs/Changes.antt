@@ -17,7 +17,8 @@ use Rattle.states.specs.declared.state.State.{State}
 use Rattle.states.specs.declared.state.State.TheVariants.{Free, Running, Blocked}
 use Rattle.states.specs.declared.state.Task.{Task}
 use Rattle.states.proofs.Truth.{clash, and_left, and_right}
-use Rattle.hall.specs.Calls.{called, open_task_of, end_task_of, open_phaser_of, close_phaser_of, admit_of, leave_of, arrive_of, waits, wait_of, wait_at_of, release_of}
+use Rattle.hall.specs.Calls.{called, open_task_of, end_task_of, open_phaser_of, close_phaser_of, admit_of, leave_of, arrive_of, waits, wait_of}
+use Rattle.hall.specs.Calls.{wait_at_of, release_of}
 use Rattle.hall.specs.Effects.{with_state, with_entry, with_open, without_entries}
 use Rattle.hall.specs.Every.{every}
 use Rattle.hall.specs.Table.{state_at, open_at, member_at, phase_at, joined, absent, Shaped}
@@ -36,7 +37,8 @@ use Rattle.hall.proofs.Written.{Says, said, Reads, reads_itself, stated, entered
 use Rattle.hall.proofs.Written.{state_reads, entry_reads, open_reads, open_shaped, row_reads, row_shaped}
 
 -- ---- the numbers that opening gives
-pub free_lowest : (t : Table) → (lowest_free t < 32 → is_free (state_at t (lowest_free t)) ≡ true) × ((k : ℕ) → k < lowest_free t → is_free (state_at t k) ≡ false)
+pub free_lowest : (t : Table) → (lowest_free t < 32 → is_free (state_at t (lowest_free t)) ≡ true) ×
+    ((k : ℕ) → k < lowest_free t → is_free (state_at t k) ≡ false)
 unfolding lowest_free
 free_lowest t = (
   λ l. lowest_holds (λ k. is_free (state_at t k)) 0 32 (omega arith),

@@ -51,15 +51,20 @@ computed sheet a d route before after answer l m x =
 
 -- "Sheet of P4 .. Strip: `03 00 00 00 02 02 00 01`, then thirty `FF`"
 pub p4_strip : Leaves p4 (3 ∷ 0 ∷ 0 ∷ 0 ∷ 2 ∷ 2 ∷ 0 ∷ 1 ∷ replicate 30 255)
-unfolding strip_of judge_of sound_of entries_sound states_sound every state_at open_at member_at phase_at fresh_table with_state with_entry named_in named_of clear
-    rows_of places mask_of impedes_of event_of round_in ring_in ring_of nexts_of ring_from step_of go_of low_of once_of count_trailing_zeros size sheet_at table_at head_at
-    lists_at count_at opens_at open_step each entries_at tasks_at task_step entry_at entry_on state_on blocked_at event_at phase_on count_on members_at member_step
+unfolding strip_of judge_of sound_of entries_sound states_sound every state_at open_at member_at phase_at fresh_table with_state with_entry named_in
+    named_of clear
+    rows_of places mask_of impedes_of event_of round_in ring_in ring_of nexts_of ring_from step_of go_of low_of once_of count_trailing_zeros size sheet_at
+    table_at head_at
+    lists_at count_at opens_at open_step each entries_at tasks_at task_step entry_at entry_on state_on blocked_at event_at phase_on count_on members_at
+    member_step
     membership_at plain_at number_at rising_at
 p4_strip = computed p4 refl refl
 
 -- "Nobody named: all zeros, then 255s"
 pub empty_strip : Leaves (1 ∷ 0 ∷ 0 ∷ []) (0 ∷ 0 ∷ 0 ∷ 0 ∷ 0 ∷ 0 ∷ replicate 32 255)
-unfolding strip_of judge_of sound_of entries_sound states_sound every state_at open_at member_at phase_at fresh_table named_in named_of clear rows_of places mask_of
-    impedes_of event_of round_in ring_in ring_of nexts_of ring_from step_of go_of low_of once_of count_trailing_zeros size sheet_at table_at head_at lists_at count_at
+unfolding strip_of judge_of sound_of entries_sound states_sound every state_at open_at member_at phase_at fresh_table named_in named_of clear rows_of
+    places mask_of
+    impedes_of event_of round_in ring_in ring_of nexts_of ring_from step_of go_of low_of once_of count_trailing_zeros size sheet_at table_at head_at
+    lists_at count_at
     opens_at each entries_at tasks_at plain_at number_at
 empty_strip = computed (1 ∷ 0 ∷ 0 ∷ []) refl refl

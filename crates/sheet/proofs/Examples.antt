@@ -34,7 +34,8 @@ refusals = ((refl, refl), (refl, refl), (refl, refl), (refl, refl), (refl, refl)
 
 -- "The empty table is `01 00 00`"
 pub empty : (sheet_at (1 ∷ 0 ∷ 0 ∷ []) ≡ record { answer = 0; table = fresh_table }) × (sheet_of fresh_table ≡ 1 ∷ 0 ∷ 0 ∷ [])
-unfolding sheet_at table_at head_at lists_at count_at opens_at each entries_at tasks_at plain_at number_at fresh_table sheet_of listed number_bytes open_at state_at
+unfolding sheet_at table_at head_at lists_at count_at opens_at each entries_at tasks_at plain_at number_at fresh_table sheet_of listed number_bytes open_at
+    state_at
 empty = (refl, refl)
 
 abbrev pub p4 : List ℕ
@@ -49,5 +50,6 @@ SaysP4 t =
 
 pub p4_read : ((sheet_at p4).answer ≡ 0) × SaysP4 (sheet_at p4).table × (sheet_of (sheet_at p4).table ≡ p4)
 unfolding sheet_at table_at head_at lists_at count_at opens_at open_step each entries_at tasks_at task_step entry_at entry_on state_on blocked_at event_at
-    phase_on count_on members_at member_step membership_at plain_at number_at rising_at with_state with_entry sheet_of listed number_bytes open_at state_at member_at phase_at
+    phase_on count_on members_at member_step membership_at plain_at number_at rising_at with_state with_entry sheet_of listed number_bytes open_at state_at
+    member_at phase_at
 p4_read = (refl, (refl, refl, refl, refl, refl, refl, refl, refl, refl, refl), refl)

@@ -93,7 +93,8 @@ sound_test = simp (every_all entries 512 entry, every_all states 32 state)
   where
     entries : ℕ → Bool
     entries i =
-        entry_sound (member_at full_table (i / 16) (i % 16)) (state_at full_table (i / 16)) (open_at full_table (i % 16)) (phase_at full_table (i / 16) (i % 16))
+        entry_sound (member_at full_table (i / 16) (i % 16)) (state_at full_table (i / 16)) (open_at full_table (i % 16))
+        (phase_at full_table (i / 16) (i % 16))
 
     entry : (i : ℕ) → i < 512 → entries i ≡ true
     entry i h =

@@ -1,6 +1,7 @@
 -- A number in a part of the file: it goes on past the part, or is read there as in the whole; with three bytes it does not go on; and one that goes on past a
 -- part ends behind it.
-use Rattle.std.proofs.Common.{◌≡◌, ℕ, zero, suc, ◌+◌, ◌-◌, ◌*◌, ◌<◌, ◌≤◌, Bool, true, false, cond, eqb, ltb, leb, ◌⊎◌, List, ◌++◌, length, get_or, refl, ap, inl, inr, ⊎_elim, arith, length-append, leb-false, leb-true}
+use Rattle.std.proofs.Common.{◌≡◌, ℕ, zero, suc, ◌+◌, ◌-◌, ◌*◌, ◌<◌, ◌≤◌, Bool, true, false, cond, eqb, ltb, leb, ◌⊎◌, List, ◌++◌, length, get_or, refl}
+use Rattle.std.proofs.Common.{ap, inl, inr, ⊎_elim, arith, length-append, leb-false, leb-true}
 use lib.ListN.{get_or-append}
 use borrow.Author.Tests.{lt-leb}
 use Rattle.answers.specs.Answers.{ends_inside, needless_group, too_large}

@@ -137,7 +137,8 @@ module _ (s : Seen) where
   arrive_first = refusal_first (member_tests s) (ltb s.phase.0 largest_phase else phase_too_large ∷ []) refl
 
   pub admit_first : (target : State) (joined : Bool) → refusal_of (admit_tests s target joined)
-      ≡ first_of (refusal_of (member_tests s)) (cond (is_live target) (cond (not (is_blocked target)) (cond (not joined) 0 already_member) target_blocked) no_task)
+      ≡ first_of (refusal_of (member_tests s)) (cond (is_live target) (cond (not (is_blocked target)) (cond (not joined) 0 already_member) target_blocked)
+      no_task)
   unfolding admit_tests member_tests caller_tests refuses refusal_of
   admit_first target joined =
       refusal_first (member_tests s) (is_live target else no_task ∷ not (is_blocked target) else target_blocked ∷ not joined else already_member ∷ []) refl

@@ -22,11 +22,13 @@ answer c = ap (λ (s : Sheet). s.answer) c.read-table.ensures
 pub returns-then-fault-ne-DONE : goal.returns-then-fault-ne-DONE
 returns-then-fault-ne-DONE c =
     c.refused-then-fault-ne-DONE.ensures _ ∙ ap (λ n. stays n c.args.next.now) (answer (goal.at.returns-then-fault-ne-DONE c).After-read-table)
-    ∙ sym (fault_handed c.args.sheet.now _ _ (known (goal.at.returns-then-fault-ne-DONE c).After-read-table) (λ e. omega (arith, c.if-fault-ne-DONE.true, answer (goal.at.returns-then-fault-ne-DONE c).After-read-table ∙ e)))
+    ∙ sym (fault_handed c.args.sheet.now _ _ (known (goal.at.returns-then-fault-ne-DONE c).After-read-table)
+    (λ e. omega (arith, c.if-fault-ne-DONE.true, answer (goal.at.returns-then-fault-ne-DONE c).After-read-table ∙ e)))
 
 pub returns : goal.returns
 returns c =
     let a = c.args in
     c.call_and_write.ensures
     ∙ ap (λ (t : Table). hand_on (call_of t a.call) a.next.now) (ap (λ (s : Sheet). s.table) c.read-table.ensures)
-    ∙ sym (call_handed a.sheet.now _ _ (known (goal.at.returns c).After-read-table) (sym (answer (goal.at.returns c).After-read-table) ∙ omega (arith, c.if-fault-ne-DONE.false)))
+    ∙ sym (call_handed a.sheet.now _ _ (known (goal.at.returns c).After-read-table)
+    (sym (answer (goal.at.returns c).After-read-table) ∙ omega (arith, c.if-fault-ne-DONE.false)))

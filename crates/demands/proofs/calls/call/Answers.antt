@@ -24,5 +24,5 @@ pub returns : goal.returns
 returns c =
     let a = c.args in
     let both =
-        of_row a.table c.shaped.ensures.lengths a.call _ c.call.result c.call.ensures (omega arith) (omega arith) (omega arith) (omega arith) in
+    of_row a.table c.shaped.ensures.lengths a.call _ c.call.result c.call.ensures (omega arith) (omega arith) (omega arith) (omega arith) in
     record { answered = both.0; moves = both.1 }

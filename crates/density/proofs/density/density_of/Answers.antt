@@ -13,5 +13,6 @@ returns c =
     let blocked : events.result.blocked < 2 ^ 32 = search rules in
     let first : events.result.first < 2 ^ 32 = search rules in
     density_counted _ events.result events.ensures _ _ c.size-blocked.ensures c.size-awaited.ensures blocked first _
-    _ (omega (arith, seats.ensures.all)) (seated_rows _ _ seats.ensures.seated _ c.edges-impeders.ensures) _ (omega arith) (omega arith) c.edges_from-task_edges.ensures c.event_edges-between_events.ensures _ _
+    _ (omega (arith, seats.ensures.all)) (seated_rows _ _ seats.ensures.seated _ c.edges-impeders.ensures) _ (omega arith) (omega arith)
+    c.edges_from-task_edges.ensures c.event_edges-between_events.ensures _ _
     c.edges_from.ensures (omega arith) (omega arith)

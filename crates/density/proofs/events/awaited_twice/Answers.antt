@@ -36,13 +36,15 @@ taken c = c.rest-todo.ensures _ c.lowest-t.ensures
 
 pub loop-todo-smaller : goal.loop-todo-smaller
 loop-todo-smaller c =
-    lowest_less c.loop-todo.invariant.fits (some (goal.at.loop-todo-smaller c).After-lowest-t) c.lowest-t.ensures _ c.rest-todo.type_inv (taken (goal.at.loop-todo-smaller c).After-rest-todo)
+    lowest_less c.loop-todo.invariant.fits (some (goal.at.loop-todo-smaller c).After-lowest-t) c.lowest-t.ensures _ c.rest-todo.type_inv
+    (taken (goal.at.loop-todo-smaller c).After-rest-todo)
 
 pub loop-todo-preserved : goal.loop-todo-preserved
 loop-todo-preserved c =
     let done : c.loop-unseen.unseen ≡ 0 = omega (arith, c.loop-unseen-test.false) in
     look_more _ _ c.loop-todo.invariant (taken (goal.at.loop-todo-preserved c).After-rest-todo) c.rest-todo.type_inv (omega arith)
-    (alone c.loop-todo.invariant (here (goal.at.loop-todo-preserved c).After-rest-todo) (taken (goal.at.loop-todo-preserved c).After-rest-todo) (rw done at c.loop-unseen.invariant))
+    (alone c.loop-todo.invariant (here (goal.at.loop-todo-preserved c).After-rest-todo) (taken (goal.at.loop-todo-preserved c).After-rest-todo)
+    (rw done at c.loop-unseen.invariant))
 
 -- inside too, and the lowest of them is the task that is looked at
 some2 : (c : After-lowest-u) → c.loop-unseen.unseen ≡ 0 → ⊥
@@ -74,13 +76,17 @@ returns-then-awaits c s e =
     let looked = c.loop-unseen.invariant in
     let there = lowest_has looked.fits (some2 (goal.at.returns-then-awaits c).After-lowest-u) c.lowest-u.ensures in
     let one : c.awaits.result ≡ true = holds _ (λ f. clash c.if-awaits.true (rw f refl)) in
-    let other : c.awaits-in-loop-unseen.result ≡ true = holds _ (λ f. clash c.if-awaits.true (rw (one, f) refl)) in
-    (λ z. found c.loop-todo.invariant (here (goal.at.returns-then-awaits c).After-rest-todo) (taken (goal.at.returns-then-awaits c).After-rest-todo) s looked there ((both (goal.at.returns-then-awaits c).After-awaits-in-loop-unseen s e).0 (one, other)), λ x. refl)
+    let other : c.awaits-in-loop-unseen.result ≡ true = holds _ (λ f. clash c.if-awaits.true (rw (one, f) refl)) in (
+      λ z. found c.loop-todo.invariant (here (goal.at.returns-then-awaits c).After-rest-todo) (taken (goal.at.returns-then-awaits c).After-rest-todo) s
+          looked there ((both (goal.at.returns-then-awaits c).After-awaits-in-loop-unseen s e).0 (one, other)),
+      λ x. refl,
+    )
 
 pub loop-unseen-smaller : goal.loop-unseen-smaller
 loop-unseen-smaller c =
     let rest = c.rest-unseen.ensures _ c.lowest-u.ensures in
-    let less = lowest_less c.loop-unseen.invariant.fits (some2 (goal.at.loop-unseen-smaller c).After-lowest-u) c.lowest-u.ensures _ c.rest-unseen.type_inv rest in
+    let less =
+    lowest_less c.loop-unseen.invariant.fits (some2 (goal.at.loop-unseen-smaller c).After-lowest-u) c.lowest-u.ensures _ c.rest-unseen.type_inv rest in
     omega arith
 
 pub loop-unseen-preserved : goal.loop-unseen-preserved

@@ -65,5 +65,6 @@ loop-todo-smaller c =
 pub loop-todo-preserved : goal.loop-todo-preserved
 loop-todo-preserved c =
     let known = c.blocked-blocked.ensures in
-    sort_more _ _ known _ _ _ c.loop-todo.invariant _ _ _ (found (goal.at.loop-todo-preserved c).After-loop-unseen) _ _ _ _ _ (omega arith) (omega arith) c.take.ensures
+    sort_more _ _ known _ _ _ c.loop-todo.invariant _ _ _ (found (goal.at.loop-todo-preserved c).After-loop-unseen) _ _ _ _ _ (omega arith) (omega arith)
+    c.take.ensures
     c.less-first.ensures c.less-todo.ensures c.less-todo.type_inv

@@ -34,7 +34,13 @@ overflow_mul-result c = omega (arith, product (goal.at.overflow_mul-result c).In
 
 pub overflow_add-result : goal.overflow_add-result
 overflow_add-result c =
-    omega (arith, product (goal.at.overflow_add-result c).In-loop-left c.wide-group.result c.if-group-lt128.true, small (goal.at.overflow_add-result c).In-loop-left, c.loop-left.invariant.0.low)
+    omega (
+      arith,
+      product (goal.at.overflow_add-result c).In-loop-left c.wide-group.result c.if-group-lt128.true,
+      small
+          (goal.at.overflow_add-result c).In-loop-left,
+      c.loop-left.invariant.0.low,
+    )
 
 pub returns-then-group-lt128 : goal.returns-then-group-lt128
 returns-then-group-lt128 c =
@@ -45,11 +51,17 @@ returns-then-group-lt128 c =
     ∙ l.invariant.1)
 
 pub overflow_mul-value : goal.overflow_mul-value
-overflow_mul-value c = omega (arith, product (goal.at.overflow_mul-value c).In-loop-left (c.wide-group.result - 128) (seven (goal.at.overflow_mul-value c).After-wide-group))
+overflow_mul-value c =
+    omega (arith, product (goal.at.overflow_mul-value c).In-loop-left (c.wide-group.result - 128) (seven (goal.at.overflow_mul-value c).After-wide-group))
 
 pub overflow_add-value : goal.overflow_add-value
 overflow_add-value c =
-    omega (arith, product (goal.at.overflow_add-value c).In-loop-left (c.wide-group.result - 128) (seven (goal.at.overflow_add-value c).After-wide-group), small (goal.at.overflow_add-value c).In-loop-left, c.loop-left.invariant.0.low)
+    omega (
+      arith,
+      product (goal.at.overflow_add-value c).In-loop-left (c.wide-group.result - 128) (seven (goal.at.overflow_add-value c).After-wide-group),
+      small (goal.at.overflow_add-value c).In-loop-left,
+      c.loop-left.invariant.0.low,
+    )
 
 pub overflow_mul-weight : goal.overflow_mul-weight
 overflow_mul-weight c = omega (arith, small (goal.at.overflow_mul-weight c).In-loop-left)

@@ -5,9 +5,10 @@ use native.Mathlib.Omega.{arith}
 use Rattle.sets.specs.Set.{Has, Least}
 use Rattle.sets.proofs.Loops.{sift_if, lowest_has, lowest_lt, lowest_less}
 use Rattle.hall.proofs.Looking.{awaits_read, late_read}
-use Rattle.judge.proofs.Events.{Looked, search_keep, search_drop, search_done, keep_less, drop_less, found_waiters, found_impeders, some_impedes, shaken_has, }
+use Rattle.judge.proofs.Events.{Looked, search_keep, search_drop, search_done, keep_less, drop_less, found_waiters, found_impeders, some_impedes, shaken_has}
 use Rattle.judge.proofs.Seeking.{seek_less, seek_more}
-use Rattle.judge.proofs.event_route.along_events.Goals.{After-column-place, After-loop-unseen, After-lowest-t, After-lowest-u, After-lowest-w, In-loop-todo, In-loop-unasked, In-loop-unseen}
+use Rattle.judge.proofs.event_route.along_events.Goals.{After-column-place, After-loop-unseen, After-lowest-t, After-lowest-u, After-lowest-w}
+use Rattle.judge.proofs.event_route.along_events.Goals.{In-loop-todo, In-loop-unasked, In-loop-unseen}
 use Rattle.judge.proofs.event_route.along_events.Goals as goal
 
 -- somebody is to be looked at, and the lowest stands for its event
@@ -15,7 +16,7 @@ some_todo : (c : In-loop-todo) → c.loop-todo.todo ≡ 0 → ⊥
 some_todo c z = omega (arith, z, c.loop-todo-test.true)
 
 mine : (c : After-lowest-t) → c.lowest-t.result < 32
-mine c = 
+mine c =
     let some_todo : c.loop-todo.todo ≡ 0 → ⊥ = λ z. omega (arith, z, c.loop-todo-test.true) in
     lowest_lt c.loop-todo.invariant.fits_todo some_todo c.lowest-t.ensures
 
@@ -34,7 +35,7 @@ some_unasked : (c : In-loop-unasked) → c.loop-unasked.unasked ≡ 0 → ⊥
 some_unasked c z = omega (arith, z, c.loop-unasked-test.true)
 
 asked : (c : After-lowest-w) → c.lowest-w.result < 32
-asked c = 
+asked c =
     let some_unasked : c.loop-unasked.unasked ≡ 0 → ⊥ = λ z. omega (arith, z, c.loop-unasked-test.true) in
     lowest_lt c.loop-unasked.invariant.0 some_unasked c.lowest-w.ensures
 
@@ -46,7 +47,8 @@ bounds-table-w c = asked (goal.at.bounds-table-w c).After-lowest-w
 
 pub loop-unasked-smaller : goal.loop-unasked-smaller
 loop-unasked-smaller c =
-    lowest_less c.loop-unasked.invariant.0 (some_unasked (goal.at.loop-unasked-smaller c).In-loop-unasked) c.lowest-w.ensures _ c.rest-unasked.type_inv (c.rest-unasked.ensures _ c.lowest-w.ensures)
+    lowest_less c.loop-unasked.invariant.0 (some_unasked (goal.at.loop-unasked-smaller c).In-loop-unasked) c.lowest-w.ensures _ c.rest-unasked.type_inv
+    (c.rest-unasked.ensures _ c.lowest-w.ensures)
 
 pub loop-unasked-preserved : goal.loop-unasked-preserved
 loop-unasked-preserved c =
@@ -62,6 +64,7 @@ module _ (c : After-lowest-u) where
   seen =
       let some_unseen : c.loop-unseen.unseen ≡ 0 → ⊥ = λ z. omega (arith, z, c.loop-unseen-test.true) in
       lowest_lt c.loop-unseen.invariant.0 some_unseen c.lowest-u.ensures
+
   seen_entry : c.lowest-u.result * 16 + c.column-place.result < 512
   seen_entry =
       let column : c.column-place.result < 16 = let p = c.column-place.ensures in omega arith in
@@ -85,14 +88,16 @@ least c = c.lowest-u.ensures.some (omega (arith, c.loop-unseen-test.true))
 
 pub loop-unseen-smaller : goal.loop-unseen-smaller
 loop-unseen-smaller c =
-    seek_less _ c.loop-unseen.invariant.2 (least (goal.at.loop-unseen-smaller c).After-lowest-u) (c.until-unseen.ensures _ c.lowest-u.ensures) c.until-unseen.type_inv
+    seek_less _ c.loop-unseen.invariant.2 (least (goal.at.loop-unseen-smaller c).After-lowest-u) (c.until-unseen.ensures _ c.lowest-u.ensures)
+    c.until-unseen.type_inv
 
 pub loop-unseen-preserved : goal.loop-unseen-preserved
 loop-unseen-preserved c =
     let late = late_read _ _ (seen (goal.at.loop-unseen-preserved c).After-lowest-u) _ _ _ c.column-place.ensures c.impedes-late.ensures in (
       c.until-unseen.type_inv,
       c.kept-impeders.type_inv,
-      seek_more _ c.loop-unseen.invariant.2 (least (goal.at.loop-unseen-preserved c).After-lowest-u) (c.until-unseen.ensures _ c.lowest-u.ensures) late c.kept-impeders.ensures,
+      seek_more _ c.loop-unseen.invariant.2 (least (goal.at.loop-unseen-preserved c).After-lowest-u) (c.until-unseen.ensures _ c.lowest-u.ensures) late
+          c.kept-impeders.ensures,
     )
 
 -- what the loops inside have found out, at their end
@@ -100,7 +105,6 @@ looked : (c : After-loop-unseen)
     → Looked c.args.table c.loop-todo.left c.loop-todo.todo c.lowest-t.result
     c.event_of-event.result c.loop-unseen.impeders c.loop-unasked.alike
 looked c =
-    
     let some_todo : c.loop-todo.todo ≡ 0 → ⊥ = λ z. omega (arith, z, c.loop-todo-test.true) in
     let mine : c.lowest-t.result < 32 = let some_todo : c.loop-todo.todo ≡ 0 → ⊥ = λ z. omega (arith, z, c.loop-todo-test.true) in
     lowest_lt c.loop-todo.invariant.fits_todo some_todo c.lowest-t.ensures in
@@ -120,7 +124,9 @@ looked c =
 pub loop-todo-smaller-then-impeders-eq0 : goal.loop-todo-smaller-then-impeders-eq0
 loop-todo-smaller-then-impeders-eq0 c =
     let less = c.less-left in
-    let z = drop_less _ _ _ c.loop-todo.invariant _ _ _ _ (looked (goal.at.loop-todo-smaller-then-impeders-eq0 c).After-loop-unseen) _ less.type_inv (omega (arith, c.if-impeders-eq0.true)) less.ensures in
+    let z =
+    drop_less _ _ _ c.loop-todo.invariant _ _ _ _ (looked (goal.at.loop-todo-smaller-then-impeders-eq0 c).After-loop-unseen) _ less.type_inv
+    (omega (arith, c.if-impeders-eq0.true)) less.ensures in
     let f : c.common-todo.result < 2 ^ 32 = c.common-todo.type_inv in
     omega arith
 
@@ -139,12 +145,15 @@ loop-todo-preserved-then-impeders-eq0 c =
 
 pub loop-todo-smaller : goal.loop-todo-smaller
 loop-todo-smaller c =
-    let z = keep_less _ _ _ c.loop-todo.invariant _ _ _ _ (looked (goal.at.loop-todo-smaller c).After-loop-unseen) _ c.less-todo.type_inv (λ z. omega (arith, z, c.if-impeders-eq0.false)) c.less-todo.ensures in
+    let z =
+    keep_less _ _ _ c.loop-todo.invariant _ _ _ _ (looked (goal.at.loop-todo-smaller c).After-loop-unseen) _ c.less-todo.type_inv
+    (λ z. omega (arith, z, c.if-impeders-eq0.false)) c.less-todo.ensures in
     omega arith
 
 pub loop-todo-preserved : goal.loop-todo-preserved
 loop-todo-preserved c =
-    search_keep _ _ _ c.loop-todo.invariant _ _ _ _ (looked (goal.at.loop-todo-preserved c).After-loop-unseen) _ c.less-todo.type_inv (λ z. omega (arith, z, c.if-impeders-eq0.false)) c.less-todo.ensures
+    search_keep _ _ _ c.loop-todo.invariant _ _ _ _ (looked (goal.at.loop-todo-preserved c).After-loop-unseen) _ c.less-todo.type_inv
+    (λ z. omega (arith, z, c.if-impeders-eq0.false)) c.less-todo.ensures
 
 pub returns : goal.returns
 returns c = let z : c.loop-todo.todo ≡ 0 = omega (arith, c.loop-todo-test.false) in search_done _ _ (rw z at c.loop-todo.invariant)

@@ -17,4 +17,5 @@ pub returns-else-route-eq0 : goal.returns-else-route-eq0
 returns-else-route-eq0 c =
     let left = c.if-route-gt-LARGEST_ROUTE.false in
     let known = c.shared_slice_known-1 in
-    verdict_read _ (λ i. (known.given i).fits) _ _ c.read_with_blocked-table.ensures.read _ _ (omega (arith, left)) c.judged-else-route-eq0.ensures.refused c.judged-else-route-eq0.ensures.found
+    verdict_read _ (λ i. (known.given i).fits) _ _ c.read_with_blocked-table.ensures.read _ _ (omega (arith, left)) c.judged-else-route-eq0.ensures.refused
+    c.judged-else-route-eq0.ensures.found

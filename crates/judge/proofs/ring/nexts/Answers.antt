@@ -15,7 +15,7 @@ some_todo : (c : In-loop-todo) → c.loop-todo.todo ≡ 0 → ⊥
 some_todo c z = omega (arith, z, c.loop-todo-test.true)
 
 mine : (c : After-lowest-t) → c.lowest-t.result < 32
-mine c = 
+mine c =
     let some_todo : c.loop-todo.todo ≡ 0 → ⊥ = λ z. omega (arith, z, c.loop-todo-test.true) in
     lowest_lt c.loop-todo.invariant.fits some_todo c.lowest-t.ensures
 
@@ -33,8 +33,10 @@ column c = let p = c.column-place.ensures in omega arith
 module _ (c : After-lowest-u) where
   first : Least (Has c.loop-left.left) c.lowest-u.result
   first = c.lowest-u.ensures.some (omega (arith, c.loop-left-test.true))
+
   seen : c.lowest-u.result < 32
   seen = has_lt 32 _ _ c.loop-left.invariant.0 first.holds
+
   seen_entry : c.lowest-u.result * 16 + c.column-place.result < 512
   seen_entry =
       let column : c.column-place.result < 16 = let p = c.column-place.ensures in omega arith in
@@ -63,7 +65,8 @@ loop-left-preserved c =
     let late = late_read _ _ (seen (goal.at.loop-left-preserved c).After-lowest-u) _ _ _ c.column-place.ensures c.impedes-late.ensures in (
       c.until-left.type_inv,
       c.kept-impeders.type_inv,
-      seek_more _ c.loop-left.invariant.2 (first (goal.at.loop-left-preserved c).After-lowest-u) (c.until-left.ensures _ c.lowest-u.ensures) late c.kept-impeders.ensures,
+      seek_more _ c.loop-left.invariant.2 (first (goal.at.loop-left-preserved c).After-lowest-u) (c.until-left.ensures _ c.lowest-u.ensures) late
+          c.kept-impeders.ensures,
     )
 
 pub overflow_cast-next : goal.overflow_cast-next
@@ -74,10 +77,12 @@ bounds-next-t c = mine (goal.at.bounds-next-t c).After-lowest-t
 
 pub loop-todo-smaller : goal.loop-todo-smaller
 loop-todo-smaller c =
-    lowest_less c.loop-todo.invariant.fits (some_todo (goal.at.loop-todo-smaller c).In-loop-todo) c.lowest-t.ensures _ c.rest-todo.type_inv (c.rest-todo.ensures _ c.lowest-t.ensures)
+    lowest_less c.loop-todo.invariant.fits (some_todo (goal.at.loop-todo-smaller c).In-loop-todo) c.lowest-t.ensures _ c.rest-todo.type_inv
+    (c.rest-todo.ensures _ c.lowest-t.ensures)
 
 pub loop-todo-preserved : goal.loop-todo-preserved
 loop-todo-preserved c =
     let step = step_found _ _ _ c.requires _ (mine (goal.at.loop-todo-preserved c).After-lowest-t) _ c.event_of-event.ensures _ c.column-place.ensures _
     c.common-impeders.ensures _ _ _ (omega (arith, c.loop-left-test.false)) c.loop-left.invariant.2 c.lowest.ensures in
-    step_more _ _ _ _ _ _ _ c.loop-todo.invariant (mine (goal.at.loop-todo-preserved c).After-lowest-t) (c.rest-todo.ensures _ c.lowest-t.ensures) c.rest-todo.type_inv step
+    step_more _ _ _ _ _ _ _ c.loop-todo.invariant (mine (goal.at.loop-todo-preserved c).After-lowest-t) (c.rest-todo.ensures _ c.lowest-t.ensures)
+    c.rest-todo.type_inv step

@@ -52,5 +52,6 @@ loop-left-preserved c =
       c.rest-left.type_inv,
       λ k h. inv.1 k ((taken k).0 h).0,
       going_done _ _ _ _ here _ (inv.1 _ here) taken (rw full at p.1),
-      gone_more _ _ _ _ here _ (inv.1 _ here) taken _ _ (near (goal.at.loop-left-preserved c).After-lowest-t) inv.3 (placed (goal.at.loop-left-preserved c).After-column-place) only c.marked.ensures,
+      gone_more _ _ _ _ here _ (inv.1 _ here) taken _ _ (near (goal.at.loop-left-preserved c).After-lowest-t) inv.3
+          (placed (goal.at.loop-left-preserved c).After-column-place) only c.marked.ensures,
     )

@@ -11,7 +11,8 @@ use Rattle.sheet.proofs.reader.entries.Given as goal
 
 abbrev pub invariant-loop-members : goal.invariant-loop-members
 invariant-loop-members l =
-    (gone (member_step l.sheet l.opened l.k) l.place l.members l.least l.table ≡ gone (member_step l.sheet l.opened l.k) l.initial.place l.initial.members 0 l.initial.table)
+    (gone (member_step l.sheet l.opened l.k) l.place l.members l.least l.table ≡ gone (member_step l.sheet l.opened l.k) l.initial.place l.initial.members
+    0 l.initial.table)
     × (l.members ≡ remaining_of l.place l.members) × (l.table.tasks ≡ l.initial.table.tasks)
 
 abbrev pub decreases-loop-members : goal.decreases-loop-members

@@ -19,24 +19,26 @@ told_refused c = sym c.read.ensures ∙ ap outcome c.in-Refused.is
 
 pub overflow_add-result-in-Value : goal.overflow_add-result-in-Value
 overflow_add-result-in-Value c =
-    let short = length_read c.args.bytes.now (λ i. (c.shared_slice_known-1.given i).fits) largest_length 0 (told (goal.at.overflow_add-result-in-Value c).In-Value) in
+    let short =
+    length_read c.args.bytes.now (λ i. (c.shared_slice_known-1.given i).fits) largest_length 0 (told (goal.at.overflow_add-result-in-Value c).In-Value) in
     record { fits = omega arith }
 
 pub returns-then-refusal-eq-ENDS_INSIDE : goal.returns-then-refusal-eq-ENDS_INSIDE
 returns-then-refusal-eq-ENDS_INSIDE c =
     let told_all =
-        wanted_told _ (λ i. (c.shared_slice_known-1.given i).fits) _ (wanted_more _ _ _ (told_refused (goal.at.returns-then-refusal-eq-ENDS_INSIDE c).In-Refused) (omega arith) (omega arith)) in
+    wanted_told _ (λ i. (c.shared_slice_known-1.given i).fits) _
+    (wanted_more _ _ _ (told_refused (goal.at.returns-then-refusal-eq-ENDS_INSIDE c).In-Refused) (omega arith) (omega arith)) in
     record { is = told_all.0; fits = told_all.1 }
 
 pub returns-else-refusal-eq-ENDS_INSIDE : goal.returns-else-refusal-eq-ENDS_INSIDE
 returns-else-refusal-eq-ENDS_INSIDE c =
     let told_all =
-        wanted_told _ (λ i. (c.shared_slice_known-1.given i).fits) _
-        (wanted_all _ _ _ (told_refused (goal.at.returns-else-refusal-eq-ENDS_INSIDE c).In-Refused) (λ e. omega arith) (omega arith)) in
+    wanted_told _ (λ i. (c.shared_slice_known-1.given i).fits) _
+    (wanted_all _ _ _ (told_refused (goal.at.returns-else-refusal-eq-ENDS_INSIDE c).In-Refused) (λ e. omega arith) (omega arith)) in
     record { is = told_all.0; fits = told_all.1 }
 
 pub returns-in-Value : goal.returns-in-Value
 returns-in-Value c =
     let told_all =
-        wanted_told _ (λ i. (c.shared_slice_known-1.given i).fits) _ (wanted_value _ _ _ _ (told (goal.at.returns-in-Value c).In-Value) (omega arith)) in
+    wanted_told _ (λ i. (c.shared_slice_known-1.given i).fits) _ (wanted_value _ _ _ _ (told (goal.at.returns-in-Value c).In-Value) (omega arith)) in
     record { is = told_all.0; fits = told_all.1 }

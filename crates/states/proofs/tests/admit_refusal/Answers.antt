@@ -29,14 +29,34 @@ returns-then-not-is_live c =
 pub returns-then-is_blocked : goal.returns-then-is_blocked
 returns-then-is_blocked c =
     let blocked = holds c.is_blocked.result (λ e. clash c.if-is_blocked.true (rw e refl)) in
-    simp (admit_first, begun (goal.at.returns-then-is_blocked c).Else-refusal-ne-DONE, live_ok (goal.at.returns-then-is_blocked c).Else-not-is_live, sym c.is_blocked.ensures ∙ blocked)
+    simp (
+      admit_first,
+      begun (goal.at.returns-then-is_blocked c).Else-refusal-ne-DONE,
+      live_ok (goal.at.returns-then-is_blocked c).Else-not-is_live,
+      sym
+          c.is_blocked.ensures ∙ blocked,
+    )
 
 pub returns-then-joined : goal.returns-then-joined
 returns-then-joined c =
     let already = holds c.args.joined (λ e. clash c.if-joined.true (rw e refl)) in
-    simp (admit_first, begun (goal.at.returns-then-joined c).Else-refusal-ne-DONE, live_ok (goal.at.returns-then-joined c).Else-not-is_live, awake_ok (goal.at.returns-then-joined c).Else-is_blocked, already)
+    simp (
+      admit_first,
+      begun (goal.at.returns-then-joined c).Else-refusal-ne-DONE,
+      live_ok (goal.at.returns-then-joined c).Else-not-is_live,
+      awake_ok
+          (goal.at.returns-then-joined c).Else-is_blocked,
+      already,
+    )
 
 pub returns : goal.returns
 returns c =
     let fresh = fails c.args.joined (λ e. clash (rw e refl) c.if-joined.false) in
-    simp (admit_first, begun (goal.at.returns c).Else-refusal-ne-DONE, live_ok (goal.at.returns c).Else-not-is_live, awake_ok (goal.at.returns c).Else-is_blocked, fresh)
+    simp (
+      admit_first,
+      begun (goal.at.returns c).Else-refusal-ne-DONE,
+      live_ok (goal.at.returns c).Else-not-is_live,
+      awake_ok
+          (goal.at.returns c).Else-is_blocked,
+      fresh,
+    )

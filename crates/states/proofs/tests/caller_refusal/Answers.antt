@@ -27,7 +27,12 @@ pub returns-then-not-is_running : goal.returns-then-not-is_running
 unfolding refusal_of caller_tests
 returns-then-not-is_running c =
     let blocked = fails c.is_running.result (λ e. clash c.if-not-is_running.true-raw (rw e refl)) in
-    simp (sound_ok (goal.at.returns-then-not-is_running c).Else-not-sound, live_ok (goal.at.returns-then-not-is_running c).Else-not-is_live, sym c.is_running.ensures ∙ blocked)
+    simp (
+      sound_ok (goal.at.returns-then-not-is_running c).Else-not-sound,
+      live_ok (goal.at.returns-then-not-is_running c).Else-not-is_live,
+      sym
+          c.is_running.ensures ∙ blocked,
+    )
 
 pub returns : goal.returns
 unfolding refusal_of caller_tests

@@ -17,7 +17,8 @@ pub returns-then-refusal-ne-DONE : goal.returns-then-refusal-ne-DONE
 returns-then-refusal-ne-DONE c = simp (member_first, ← c.caller_refusal-refusal.ensures, ne_eqb _ _ c.if-refusal-ne-DONE.true)
 
 pub returns-then-not-seen : goal.returns-then-not-seen
-returns-then-not-seen c = simp (member_first, begun (goal.at.returns-then-not-seen c).Else-refusal-ne-DONE, fails c.args.seen.opened (λ e. clash c.if-not-seen.true (rw e refl)))
+returns-then-not-seen c =
+    simp (member_first, begun (goal.at.returns-then-not-seen c).Else-refusal-ne-DONE, fails c.args.seen.opened (λ e. clash c.if-not-seen.true (rw e refl)))
 
 pub returns-then-not-seen-2 : goal.returns-then-not-seen-2
 returns-then-not-seen-2 c =

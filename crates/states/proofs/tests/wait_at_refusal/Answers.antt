@@ -16,12 +16,23 @@ returns-then-refusal-ne-DONE c = simp (wait_at_first, ← c.caller_refusal-refus
 
 pub returns-then-not-opened : goal.returns-then-not-opened
 returns-then-not-opened c =
-    simp (wait_at_first, begun (goal.at.returns-then-not-opened c).Else-refusal-ne-DONE, fails c.args.seen.opened (λ e. clash c.if-not-opened.true-raw (rw e refl)))
+    simp (
+      wait_at_first,
+      begun (goal.at.returns-then-not-opened c).Else-refusal-ne-DONE,
+      fails c.args.seen.opened
+          (λ e. clash c.if-not-opened.true-raw (rw e refl)),
+    )
 
 pub returns-then-stated : goal.returns-then-stated
 returns-then-stated c =
     let large = lt-leb c.args.stated largest_phase (omega arith) in
-    simp (wait_at_first, begun (goal.at.returns-then-stated c).Else-refusal-ne-DONE, holds c.args.seen.opened (λ e. clash (rw e refl) c.if-not-opened.false-raw), large)
+    simp (
+      wait_at_first,
+      begun (goal.at.returns-then-stated c).Else-refusal-ne-DONE,
+      holds c.args.seen.opened
+          (λ e. clash (rw e refl) c.if-not-opened.false-raw),
+      large,
+    )
 
 pub returns : goal.returns
 returns c =

@@ -18,7 +18,8 @@ on_call c = ap (λ (r : Called). hand_on r c.args.next.now) (sym c.call-called.e
 
 pub returns-then-answer-ge10 : goal.returns-then-answer-ge10
 returns-then-answer-ge10 c =
-    c.refused.ensures _ ∙ sym (on_call (goal.at.returns-then-answer-ge10 c).After-call-called ∙ refused_handed c.call-called.result _ (omega (arith, c.if-answer-ge10.true)))
+    c.refused.ensures _ ∙ sym (on_call (goal.at.returns-then-answer-ge10 c).After-call-called ∙ refused_handed c.call-called.result _
+    (omega (arith, c.if-answer-ge10.true)))
 
 -- where it is accepted: what it leaves is sound, and is to be sent
 accepted : (c : Else-answer-ge10) → c.call-called.result.answer < 10
@@ -31,7 +32,8 @@ on_sent : (c : Else-answer-ge10)
     → hand_on (call_of c.args.table c.args.call) c.args.next.now
     ≡ sent c.call-called.result c.args.next.now
 on_sent c =
-    let on_call : hand_on (call_of c.args.table c.args.call) c.args.next.now ≡ hand_on c.call-called.result c.args.next.now = ap (λ (r : Called). hand_on r c.args.next.now) (sym c.call-called.ensures) in
+    let on_call : hand_on (call_of c.args.table c.args.call) c.args.next.now ≡ hand_on c.call-called.result c.args.next.now = ap
+    (λ (r : Called). hand_on r c.args.next.now) (sym c.call-called.ensures) in
     on_call ∙ accepted_handed c.call-called.result _ (accepted c)
 
 pub write_sound-written-requires : goal.write_sound-written-requires
@@ -41,11 +43,13 @@ pub returns-then-short-ne-DONE : goal.returns-then-short-ne-DONE
 returns-then-short-ne-DONE c =
     c.refused-then-short-ne-DONE.ensures _
     ∙ sym (on_sent (goal.at.returns-then-short-ne-DONE c).Else-answer-ge10
-    ∙ short_sent c.call-called.result _ (sound (goal.at.returns-then-short-ne-DONE c).Else-answer-ge10) (wrote c.write_sound-written.result.answer _ _) c.write_sound-written.ensures
+    ∙ short_sent c.call-called.result _ (sound (goal.at.returns-then-short-ne-DONE c).Else-answer-ge10) (wrote c.write_sound-written.result.answer _ _)
+    c.write_sound-written.ensures
     (λ e. omega (arith, e, c.if-short-ne-DONE.true)))
 
 pub returns : goal.returns
 returns c =
     sym (on_sent (goal.at.returns c).Else-answer-ge10
-    ∙ whole_sent c.call-called.result _ (sound (goal.at.returns c).Else-answer-ge10) (wrote c.write_sound-written.result.answer _ _) c.write_sound-written.ensures
+    ∙ whole_sent c.call-called.result _ (sound (goal.at.returns c).Else-answer-ge10) (wrote c.write_sound-written.result.answer _ _)
+    c.write_sound-written.ensures
     (omega (arith, c.if-short-ne-DONE.false)))

@@ -20,8 +20,14 @@ loop-p-init c =
     let k = c.loop-k.k in
     let ready =
     entry_ready (240 + 370 * k) c.loop-k.invariant.2 k ((get_or c.args.table.tasks c.loop-k.k free_task).state) c.count_of.result
-    c.put_entry-at.ensures (omega (arith, c.loop-k.invariant.3)) in
-    (omega arith, rw c.row_end-end.ensures (row_within ((get_or c.args.table.tasks c.loop-k.k free_task).state)), laid_none _ _ _, ready.0, omega (arith, ready.1))
+    c.put_entry-at.ensures (omega (arith, c.loop-k.invariant.3)) in (
+      omega arith,
+      rw c.row_end-end.ensures (row_within ((get_or c.args.table.tasks c.loop-k.k free_task).state)),
+      laid_none _ _ _,
+      ready.0,
+      omega
+          (arith, ready.1),
+    )
 
 pub loop-p-preserved : goal.loop-p-preserved
 loop-p-preserved c =

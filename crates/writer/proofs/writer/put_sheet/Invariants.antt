@@ -16,7 +16,8 @@ decreases-loop-p l = l.end - l.p
 
 abbrev pub invariant-loop-k : goal.invariant-loop-k
 invariant-loop-k l =
-    (l.k ≤ 32) × Laid l.room l.initial.buffer l.initial.at (gather (live_at l.table) (task_bytes l.table) l.k) l.buffer l.at × (l.room ≤ length l.buffer) × (l.at ≤ 190 + 370 * l.k)
+    (l.k ≤ 32) × Laid l.room l.initial.buffer l.initial.at (gather (live_at l.table) (task_bytes l.table) l.k) l.buffer l.at × (l.room ≤ length l.buffer) ×
+    (l.at ≤ 190 + 370 * l.k)
 
 abbrev pub decreases-loop-k : goal.decreases-loop-k
 decreases-loop-k l = 32 - l.k

@@ -8,7 +8,8 @@ use Rattle.hall.proofs.Ruled.{ruled_refused, admit_in_range}
 use Rattle.hall.proofs.table.Table.admit.Goals.{After-admit_refusal-refusal, Else-refusal-ne-DONE}
 use Rattle.hall.proofs.table.Table.admit.Goals as goal
 
-row : (c : After-admit_refusal-refusal) → c.admit_refusal-refusal.result ≡ refusal_of (admit_tests (seen_at c.args.self c.args.caller.0 c.args.phaser.0) (state_at c.args.self c.args.target.0)
+row : (c : After-admit_refusal-refusal) → c.admit_refusal-refusal.result ≡ refusal_of
+    (admit_tests (seen_at c.args.self c.args.caller.0 c.args.phaser.0) (state_at c.args.self c.args.target.0)
     (member_at c.args.self c.args.target.0 c.args.phaser.0))
 row c =
     c.admit_refusal-refusal.ensures
@@ -17,13 +18,15 @@ row c =
 passes : (c : Else-refusal-ne-DONE) → refusal_of (admit_tests (seen_at c.args.self c.args.caller.0 c.args.phaser.0) (state_at c.args.self c.args.target.0)
     (member_at c.args.self c.args.target.0 c.args.phaser.0)) ≡ 0
 passes c =
-    let row : c.admit_refusal-refusal.result ≡ refusal_of (admit_tests (seen_at c.args.self c.args.caller.0 c.args.phaser.0) (state_at c.args.self c.args.target.0) (member_at c.args.self c.args.target.0 c.args.phaser.0)) =
-        c.admit_refusal-refusal.ensures ∙ rw (c.seen-seen.ensures, c.state_at.ensures, c.member_at.ensures) refl in
+    let row : c.admit_refusal-refusal.result ≡ refusal_of (admit_tests (seen_at c.args.self c.args.caller.0 c.args.phaser.0)
+    (state_at c.args.self c.args.target.0) (member_at c.args.self c.args.target.0 c.args.phaser.0)) =
+    c.admit_refusal-refusal.ensures ∙ rw (c.seen-seen.ensures, c.state_at.ensures, c.member_at.ensures) refl in
     sym row ∙ c.if-refusal-ne-DONE.false
 
 pub returns-then-refusal-ne-DONE : goal.returns-then-refusal-ne-DONE
 unfolding admit_of
-returns-then-refusal-ne-DONE c = c.refused.ensures ∙ ruled_refused _ _ _ _ (row (goal.at.returns-then-refusal-ne-DONE c).After-admit_refusal-refusal) c.if-refusal-ne-DONE.true
+returns-then-refusal-ne-DONE c =
+    c.refused.ensures ∙ ruled_refused _ _ _ _ (row (goal.at.returns-then-refusal-ne-DONE c).After-admit_refusal-refusal) c.if-refusal-ne-DONE.true
 
 pub with_entry-next-requires : goal.with_entry-next-requires
 with_entry-next-requires c =

@@ -15,7 +15,7 @@ row c = c.arrive_refusal-refusal.ensures ∙ ap (λ s. refusal_of (arrive_tests 
 passes : (c : Else-refusal-ne-DONE) → refusal_of (arrive_tests (seen_at c.args.self c.args.task.0 c.args.phaser.0)) ≡ 0
 passes c =
     let row : c.arrive_refusal-refusal.result ≡ refusal_of (arrive_tests (seen_at c.args.self c.args.task.0 c.args.phaser.0)) =
-        c.arrive_refusal-refusal.ensures ∙ ap (λ s. refusal_of (arrive_tests s)) c.seen-seen.ensures in
+    c.arrive_refusal-refusal.ensures ∙ ap (λ s. refusal_of (arrive_tests s)) c.seen-seen.ensures in
     sym row ∙ c.if-refusal-ne-DONE.false
 
 -- the phase that was seen
@@ -24,10 +24,12 @@ kept c = ap (λ (s : Seen). s.phase.0) c.seen-seen.ensures
 
 pub returns-then-refusal-ne-DONE : goal.returns-then-refusal-ne-DONE
 unfolding arrive_of
-returns-then-refusal-ne-DONE c = c.refused.ensures ∙ ruled_refused _ _ _ _ (row (goal.at.returns-then-refusal-ne-DONE c).After-arrive_refusal-refusal) c.if-refusal-ne-DONE.true
+returns-then-refusal-ne-DONE c =
+    c.refused.ensures ∙ ruled_refused _ _ _ _ (row (goal.at.returns-then-refusal-ne-DONE c).After-arrive_refusal-refusal) c.if-refusal-ne-DONE.true
 
 pub overflow_add-higher : goal.overflow_add-higher
-overflow_add-higher c = omega (arith, arrive_in_range _ _ _ (passes (goal.at.overflow_add-higher c).Else-refusal-ne-DONE), kept (goal.at.overflow_add-higher c).After-seen-seen)
+overflow_add-higher c =
+    omega (arith, arrive_in_range _ _ _ (passes (goal.at.overflow_add-higher c).Else-refusal-ne-DONE), kept (goal.at.overflow_add-higher c).After-seen-seen)
 
 pub with_entry-next-requires : goal.with_entry-next-requires
 with_entry-next-requires c =

@@ -21,7 +21,8 @@ returns-then-not-is_sound c = simp (sym c.is_sound.ensures ∙ not-true _ c.if-n
 
 pub returns-then-not-open_at : goal.returns-then-not-open_at
 unfolding refusal_of close_phaser_tests
-returns-then-not-open_at c = simp (sound_ok (goal.at.returns-then-not-open_at c).Else-not-is_sound, sym c.open_at.ensures ∙ not-true _ c.if-not-open_at.true-raw)
+returns-then-not-open_at c =
+    simp (sound_ok (goal.at.returns-then-not-open_at c).Else-not-is_sound, sym c.open_at.ensures ∙ not-true _ c.if-not-open_at.true-raw)
 
 pub unused-requires : goal.unused-requires
 unused-requires c = open_below _ _ (open_ok (goal.at.unused-requires c).Else-not-open_at)

@@ -9,13 +9,14 @@ use borrow.Author.Rules.{rules}
 use Rattle.hall.proofs.table.Table.open_phaser.Goals.{After-caller_refusal-refusal, Else-refusal-ne-DONE}
 use Rattle.hall.proofs.table.Table.open_phaser.Goals as goal
 
-row : (c : After-caller_refusal-refusal) → c.caller_refusal-refusal.result ≡ refusal_of (caller_tests (sound_of c.args.self) (state_at c.args.self c.args.task.0))
+row : (c : After-caller_refusal-refusal) → c.caller_refusal-refusal.result ≡ refusal_of
+    (caller_tests (sound_of c.args.self) (state_at c.args.self c.args.task.0))
 row c = c.caller_refusal-refusal.ensures ∙ rw (c.is_sound.ensures, c.state_at.ensures) refl
 
 begun : (c : Else-refusal-ne-DONE) → refusal_of (caller_tests (sound_of c.args.self) (state_at c.args.self c.args.task.0)) ≡ 0
 begun c =
     let row : c.caller_refusal-refusal.result ≡ refusal_of (caller_tests (sound_of c.args.self) (state_at c.args.self c.args.task.0)) =
-        c.caller_refusal-refusal.ensures ∙ rw (c.is_sound.ensures, c.state_at.ensures) refl in
+    c.caller_refusal-refusal.ensures ∙ rw (c.is_sound.ensures, c.state_at.ensures) refl in
     sym row ∙ c.if-refusal-ne-DONE.false
 
 pub returns-then-refusal-ne-DONE : goal.returns-then-refusal-ne-DONE

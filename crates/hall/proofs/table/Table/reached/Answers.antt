@@ -26,7 +26,9 @@ looked c = let near : c.loop-k.k < 32 = omega arith in impedes_is _ _ near _ _ _
 
 pub returns-then-impedes : goal.returns-then-impedes
 unfolding reached_of
-returns-then-impedes c = sym (every_not _ 32 _ (near (goal.at.returns-then-impedes c).In-loop-k) (ap not (sym (looked (goal.at.returns-then-impedes c).After-impedes) ∙ c.if-impedes.true)))
+returns-then-impedes c =
+    sym (every_not _ 32 _ (near (goal.at.returns-then-impedes c).In-loop-k)
+    (ap not (sym (looked (goal.at.returns-then-impedes c).After-impedes) ∙ c.if-impedes.true)))
 
 pub loop-k-preserved : goal.loop-k-preserved
 loop-k-preserved c = (

@@ -23,7 +23,7 @@ member_told c b e = member_in c.args.self c.loop-k.k c.args.phaser.0 (omega arit
 by_told : (c : After-waits_at) → unused_by c.args.self c.args.phaser.0 c.loop-k.k ≡ not c.waits_at.result
 by_told c =
     let outside : member_at c.args.self c.loop-k.k c.args.phaser.0 ≡ false =
-        member_in c.args.self c.loop-k.k c.args.phaser.0 (omega arith) c.requires ∙ c.if-self-i.false in
+    member_in c.args.self c.loop-k.k c.args.phaser.0 (omega arith) c.requires ∙ c.if-self-i.false in
     ap₂ (λ (m w : Bool). not m && not w) outside
     (ap (λ (x : State). waits_at x c.args.phaser.0) (state_in c.args.self c.loop-k.k (omega arith)) ∙ sym c.waits_at.ensures)
 

@@ -13,12 +13,13 @@ row c = c.member_refusal-refusal.ensures ∙ ap (λ s. refusal_of (member_tests 
 passes : (c : Else-refusal-ne-DONE) → refusal_of (member_tests (seen_at c.args.self c.args.task.0 c.args.phaser.0)) ≡ 0
 passes c =
     let row : c.member_refusal-refusal.result ≡ refusal_of (member_tests (seen_at c.args.self c.args.task.0 c.args.phaser.0)) =
-        c.member_refusal-refusal.ensures ∙ ap (λ s. refusal_of (member_tests s)) c.seen-seen.ensures in
+    c.member_refusal-refusal.ensures ∙ ap (λ s. refusal_of (member_tests s)) c.seen-seen.ensures in
     sym row ∙ c.if-refusal-ne-DONE.false
 
 pub returns-then-refusal-ne-DONE : goal.returns-then-refusal-ne-DONE
 unfolding wait_of
-returns-then-refusal-ne-DONE c = c.refused.ensures ∙ ruled_refused _ _ _ _ (row (goal.at.returns-then-refusal-ne-DONE c).After-member_refusal-refusal) c.if-refusal-ne-DONE.true
+returns-then-refusal-ne-DONE c =
+    c.refused.ensures ∙ ruled_refused _ _ _ _ (row (goal.at.returns-then-refusal-ne-DONE c).After-member_refusal-refusal) c.if-refusal-ne-DONE.true
 
 pub waits-requires : goal.waits-requires
 waits-requires c = (member_in_range _ _ _ (passes (goal.at.waits-requires c).Else-refusal-ne-DONE)).0
