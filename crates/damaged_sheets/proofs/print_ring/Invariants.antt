@@ -1,9 +1,6 @@
--- So many places were looked at.
-use Rattle.std.proofs.Common.{◌-◌, ◌≤◌}
+-- So many places are left.
+use Rattle.std.proofs.Common.{◌-◌}
 use Rattle.damaged_sheets.proofs.print_ring.Given as goal
-
-abbrev pub invariant-loop-i : goal.invariant-loop-i
-invariant-loop-i l = l.i ≤ 32
 
 abbrev pub decreases-loop-i : goal.decreases-loop-i
 decreases-loop-i l = 32 - l.i

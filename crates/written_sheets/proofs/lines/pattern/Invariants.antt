@@ -1,9 +1,6 @@
--- So many bytes were laid.
-use Rattle.std.proofs.Common.{◌-◌, ◌≤◌}
+-- So many bytes are left.
+use Rattle.std.proofs.Common.{◌-◌}
 use Rattle.written_sheets.proofs.lines.pattern.Given as goal
-
-abbrev pub invariant-loop-i : goal.invariant-loop-i
-invariant-loop-i l = l.i ≤ 2300
 
 abbrev pub decreases-loop-i : goal.decreases-loop-i
 decreases-loop-i l = 2300 - l.i
