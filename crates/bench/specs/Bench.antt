@@ -22,7 +22,7 @@ use Rattle.demands.specs.Series.{Series, after}
 pub data Row : Type 0 where
   -- of a table: whom each route names, and the ring
   judged : Table → List ℕ → List ℕ → Row
-  -- of a table: its blocked tasks, its awaited events, the edges of its task graph, event graph and task_event graph (document 02, M-101)
+  -- of a table: its blocked tasks, its awaited events, the edges of its task graph, event graph and task-event graph (document 02, M-101)
   dense : Table → ℕ → ℕ → ℕ → ℕ → ℕ → Row
   -- after a series of calls from a table: a call, its answer and its value
   called : Table → List Call → Call → ℕ → ℕ → Row

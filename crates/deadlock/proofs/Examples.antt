@@ -31,7 +31,7 @@ pub self_ring : Ring (Has 1) (Row 1 (1 ∷ [])) (0 ∷ [])
 unfolding ring_of nexts_of ring_from places step_of go_of low_of once_of count_trailing_zeros size
 self_ring = ring_by 1 (1 ∷ []) 1 (0 ∷ []) self_named (omega arith) (omega arith) refl
 
--- ---- a two_ring with a tail that hangs on it: 0 and 1 wait for each other, 2 for 0. All three are named, the ring is the two
+-- ---- a two-ring with a tail that hangs on it: 0 and 1 wait for each other, 2 for 0. All three are named, the ring is the two
 abbrev tail : List ℕ
 tail = 2 ∷ 1 ∷ 1 ∷ []
 

@@ -16,7 +16,7 @@ use Rattle.text.specs.Text.{text_with}
 use Rattle.text.specs.declared.text.Text.{Text}
 use Rattle.demands.specs.declared.densities.Step.{Step}
 
--- a table, and what was counted: "the blocked tasks, the distinct awaited events, the edges of the task graph, of the event graph and of the task_event graph"
+-- a table, and what was counted: "the blocked tasks, the distinct awaited events, the edges of the task graph, of the event graph and of the task-event graph"
 pub record TableCounted (t : Table) (d : Density) : Type 0 where
   pub is : DensityOf t d
   -- "A third route, 2, uses events where they are fewer than blocked tasks": so the counts tell which way it goes

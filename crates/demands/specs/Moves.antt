@@ -54,14 +54,14 @@ pub record ByRules (t : Table) (c : Call) (r : Called) : Type 0 where
   pub wait : c.kind ≡ 7
       → Waits t c.task c.phaser (phase_at t c.task c.phaser) r (Runs t c.task × AwaitOwn c.task c.phaser (phasers_of t))
       (Runs t c.task × BehindOwn (phasers_of t) c.task c.phaser)
-  -- 8: so does one at a stated phase, by [await_n], up to phase 65,535
+  -- 8: so does one at a stated phase, by [await-n], up to phase 65,535
   pub wait_at : c.kind ≡ 8
       → Waits t c.task c.phaser c.other r (Runs t c.task × AwaitN c.phaser c.other (phasers_of t) × (c.other ≤ largest_phase))
       (Runs t c.task × Behind (phasers_of t) c.phaser c.other × (c.other ≤ largest_phase))
   -- "A wait on a phaser with no members passes."
   pub no_members : c.kind ≡ 8 → Runs t c.task → open_at t c.phaser ≡ true → ((k : ℕ) → member_at t k c.phaser ≡ false)
       → c.other ≤ largest_phase → r.answer ≡ wait_passed
-  -- 9: release, "a call of its own", is [await_n] for a task that is blocked there
+  -- 9: release, "a call of its own", is [await-n] for a task that is blocked there
   pub release : c.kind ≡ 9
       → Rule r (λ v M'. Sound t × ((e : Awaited) × BlockedOn t c.task e × AwaitN e.phaser.0 e.phase.0 (phasers_of t)) × (v ≡ 0)
       × (M' ≡ phasers_of t)) (put (state_at t) c.task Running)

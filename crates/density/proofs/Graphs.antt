@@ -145,7 +145,7 @@ module _ (t : Table) where
             λ i. (its_is k.0 q.0 k.2 i, its_is u.0 q.1 u.2 i),
           )
 
-  -- ---- the task_event graph: tasks to their events, then events to those who impede them
+  -- ---- the task-event graph: tasks to their events, then events to those who impede them
   abbrev pub Impeder : ℕ → ℕ → Type 0
   Impeder k u = Stands t k × IsBlocked t u × ImpedesTask t k u
 

@@ -20,7 +20,7 @@ pub record EventGraphEdge (t : Table) (e f : Awaited) : Type 0 where
   pub awaited : IsAwaited t e
   pub edge : EventEdge (BlockedOn t) (Impedes t) e f
 
--- "The task_event graph has one edge per blocked task to its event, and one from an awaited event to each blocked task that impedes it"
+-- "The task-event graph has one edge per blocked task to its event, and one from an awaited event to each blocked task that impedes it"
 pub data Node : Type 0 where
   task : ℕ → Node
   event : Awaited → Node
@@ -34,7 +34,7 @@ pub record DensityOf (t : Table) (d : Density) : Type 0 where
   -- "the blocked tasks, the distinct awaited events"
   pub blocked : HowMany (IsBlocked t) d.blocked
   pub events : HowMany (IsAwaited t) d.events
-  -- "the edges of the task graph, of the event graph and of the task_event graph"
+  -- "the edges of the task graph, of the event graph and of the task-event graph"
   pub task_edges : Pairs (TaskEdge (BlockedOn t) (Impedes t)) d.task_edges
   pub event_edges : Pairs (EventGraphEdge t) d.event_edges
   pub task_event_edges : Pairs (TaskEventEdge t) d.task_event_edges

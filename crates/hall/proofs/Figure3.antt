@@ -251,7 +251,7 @@ module _ (t : Table) (z : Shaped t) (a p : ℕ) where
     waited_blocked (inl x) = (λ e. absurd (omega (arith, e, ap (λ (c : Called). c.answer) x.1)), λ r. absurd (clash x.0 r))
     waited_blocked (inr x) = (λ e. x.0, λ r. ap (λ (c : Called). c.answer) x.1)
 
-  -- 8: wait at a stated phase is [await_n], up to phase 65,535
+  -- 8: wait at a stated phase is [await-n], up to phase 65,535
   module _ (n : ℕ) where
     abbrev wait_at : Called
     wait_at = wait_at_of t a p n
@@ -333,7 +333,7 @@ module _ (t : Table) (z : Shaped t) (a p : ℕ) where
 
 -- ---- what document 01 adds
 module _ (t : Table) (z : Shaped t) where
-  -- 9: release is [await_n] for a task that is blocked at it
+  -- 9: release is [await-n] for a task that is blocked at it
   pub release_exact : (a : ℕ) (M' : PhaserMap) → Steps (release_of t a) M'
       ↔ (Sound t × ((e : Awaited) × BlockedOn t a e × AwaitN e.phaser.0 e.phase.0 (phasers_of t)) × (M' ≡ phasers_of t))
   release_exact a M' = (

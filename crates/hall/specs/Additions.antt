@@ -34,10 +34,10 @@ leaving a (some P) = some (put P a none)
 abbrev pub without : ℕ → PhaserMap → PhaserMap
 without a M p = leaving a (M p)
 
--- [await_n] can't step: the phaser is there, and not every member has phase n
+-- [await-n] can't step: the phaser is there, and not every member has phase n
 abbrev pub Behind : PhaserMap → ℕ → ℕ → Type 0
 Behind M p n = (P : Phaser) × (M p ≡ some P) × (Await P n → ⊥)
 
--- [await] can't step, since [await_n] can't at the caller's phase
+-- [await] can't step, since [await-n] can't at the caller's phase
 abbrev pub BehindOwn : PhaserMap → ℕ → ℕ → Type 0
 BehindOwn M a p = (P : Phaser) × (n : ℕ) × (M p ≡ some P) × (P a ≡ some n) × Behind M p n

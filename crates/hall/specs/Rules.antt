@@ -77,13 +77,13 @@ Dereg t p M M' = Upd (Drop t) p M M'
 abbrev pub Arrv : ℕ → ℕ → PhaserMap → PhaserMap → Type 0
 Arrv t p M M' = Upd (Adv t) p M M'
 
--- [await_n]: M(p) = P and await(P, n); M stays
+-- [await-n]: M(p) = P and await(P, n); M stays
 pub record AwaitN (p n : ℕ) (M : PhaserMap) : Type 0 where
   pub phaser : Phaser
   pub there : M p ≡ some phaser
   pub all : Await phaser n
 
--- [await]: M(p)(t) = n, and as [await_n]
+-- [await]: M(p)(t) = n, and as [await-n]
 pub record AwaitOwn (t p : ℕ) (M : PhaserMap) : Type 0 where
   pub phaser : Phaser
   pub there : M p ≡ some phaser

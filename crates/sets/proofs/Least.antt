@@ -33,7 +33,7 @@ trailing_low zero m k h = omega arith
 trailing_low (suc n) m k h = go (m % 2) refl k h (trailing_low n (m / 2))
   where
     go : (d : ℕ) → m % 2 ≡ d → (k : ℕ) → Has m k → ((j : ℕ) → Has (m / 2) j → count_trailing_zeros n (m / 2) ≤ j) → under d
-    (count_trailing_zeros n (m / 2)) ≤ k
+        (count_trailing_zeros n (m / 2)) ≤ k
     go zero e zero h r = absurd (omega arith)
     go zero e (suc j) h r = let z = r j (sym (bit_suc m j) ∙ h) in omega arith
     go (suc d) e k h r = omega arith

@@ -1,6 +1,6 @@
 -- How many bytes are wanted of what comes next: by what was read of its length, never more than the largest piece has, and never less than are there. A part
 -- of the file with so many tells what comes next.
-use Rattle.std.proofs.Common.{◌≡◌, ℕ, ◌+◌, ◌-◌, ◌<◌, ◌≤◌, Bool, true, false, cond, eqb, ◌⊎◌, List, ◌++◌, length, sym, refl, ap, ◌∙◌, inl, inr, arith}
+use Rattle.std.proofs.Common.{◌≡◌, ℕ, ◌+◌, ◌<◌, ◌≤◌, Bool, true, false, cond, eqb, ◌⊎◌, List, ◌++◌, length, sym, refl, ap, ◌∙◌, inl, inr, arith}
 use Rattle.std.proofs.Common.{length-append, ne_eqb, eqb-true, le-leb}
 use native.Mathlib.Decide.{dec_lt}
 use Rattle.answers.specs.Answers.{ends_inside}

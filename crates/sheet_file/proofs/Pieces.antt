@@ -1,5 +1,5 @@
 -- What comes next, case by case.
-use Rattle.std.proofs.Common.{◌≡◌, ℕ, suc, ◌+◌, ◌-◌, ◌<◌, ◌≤◌, Bool, true, false, cond, eqb, leb, List, length, sym, refl, ◌∙◌, arith, eq-eqb, ne_eqb}
+use Rattle.std.proofs.Common.{◌≡◌, ℕ, suc, ◌+◌, ◌<◌, ◌≤◌, Bool, true, false, cond, eqb, leb, List, length, sym, refl, ◌∙◌, arith, eq-eqb, ne_eqb}
 use Rattle.std.proofs.Common.{le-leb, leb-false, leb-true}
 use borrow.Author.Tests.{lt-leb}
 use Rattle.answers.specs.Answers.{ends_inside, bytes_after}
@@ -72,7 +72,7 @@ sheet_within bytes done {from} {to} e = none (eqb (length bytes) 0) e
     over false h e = after (number_at bytes largest_length 0) refl (leb-false most_sheets done h) e
 
     none : (b : Bool) → cond b Ended (cond (leb most_sheets done) (Stopped bytes_after) (after_length bytes (number_at bytes largest_length 0))) ≡ Sheet
-    from to
+        from to
         → Within bytes done from to
     none true e = absurd (let z : ◌≡◌ {A = ℕ} 0 1 = cc in omega arith)
     none false e = over (leb most_sheets done) refl e

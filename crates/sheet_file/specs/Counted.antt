@@ -1,5 +1,5 @@
 -- Document 02, M-101: "prints per sheet the blocked tasks, the distinct awaited events, the edges of the task graph, of the event graph and of the
--- task_event graph".
+-- task-event graph".
 use Rattle.std.specs.Prelude.{◌≡◌, ℕ, List, ◌≢◌}
 use Rattle.answers.specs.Answers.{done}
 use Rattle.density.specs.Density.{DensityOf}

@@ -1,8 +1,8 @@
 -- Document 02, M-101: what is printed of a file of sheets. "prints per sheet the blocked tasks, the distinct awaited events, the edges of the task graph, of
--- the event graph and of the task_event graph, then exact totals"; the words are ours, with one blank between words:
---     sheet 1 blocked 2 events 2 task 2 event 2 task_event 4
+-- the event graph and of the task-event graph, then exact totals"; the words are ours, with one blank between words:
+--     sheet 1 blocked 2 events 2 task 2 event 2 task-event 4
 --     sheet 2 refused 30
---     total sheets 1 refused 1 blocked 2 events 2 task 2 event 2 task_event 4
+--     total sheets 1 refused 1 blocked 2 events 2 task 2 event 2 task-event 4
 -- "stops the run with that number in place of the totals":
 --     stopped 35
 use Rattle.std.specs.Prelude.{cond, List, [], ◌∷◌, ◌++◌, ℕ, eqb}
@@ -12,7 +12,7 @@ use Rattle.sheet_file.specs.declared.counted.Counted.{Counted}
 use Rattle.sheet_file.specs.declared.totals.Totals.{Totals}
 use Rattle.text.specs.Text.{numbered, line}
 
--- `sheet`, `refused`, `blocked`, `events`, `task`, `event`, `task_event`, `total`, `sheets`, `stopped`
+-- `sheet`, `refused`, `blocked`, `events`, `task`, `event`, `task-event`, `total`, `sheets`, `stopped`
 abbrev pub sheet_word : List ℕ
 sheet_word = 115 ∷ 104 ∷ 101 ∷ 101 ∷ 116 ∷ []
 

@@ -1,6 +1,5 @@
 -- The groups so far stand as a value below a weight; those that may follow, carried over it, give the number.
 use mathlib.Core.Path.{◌≡◌}
-use Prim.Native.Nat.{◌-◌}
 use Rattle.fields.specs.Figures.{further}
 use Rattle.fields.specs.Number.{carried, groups_at}
 use Rattle.fields.proofs.Groups.{over}

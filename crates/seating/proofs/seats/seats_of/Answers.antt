@@ -1,5 +1,5 @@
 use mathlib.Core.Path.{◌≡◌}
-use Prim.Native.Nat.{◌-◌, ◌<◌}
+use Prim.Native.Nat.{◌<◌}
 use native.Mathlib.Omega.{arith}
 use Rattle.sets.proofs.Loops.{lowest_has, lowest_lt, lowest_less}
 use Rattle.seating.proofs.Placing.{gone_more, going_entry, going_done, one_place}

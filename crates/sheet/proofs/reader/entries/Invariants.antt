@@ -1,7 +1,6 @@
 -- From the place on, the tasks that are left give what all of them give, no task from the floor on is live yet, and the blocked ones are marked; within a
 -- task, its memberships that are left give what all of them give. After a fault the tasks are freed one by one from the floor down.
 use mathlib.Core.Path.{◌≡◌}
-use Prim.Native.Nat.{◌-◌}
 use Rattle.hall.specs.Parts.{BlockedSet}
 use Rattle.fields.specs.Parts.{remaining_of}
 use Rattle.sheet.specs.Reader.{member_step, task_step, no_tasks}

@@ -1,4 +1,3 @@
-use Prim.Native.Nat.{◌-◌}
 use borrow.Author.Rules.{rules}
 use Rattle.text.specs.Text.{numbered}
 use Rattle.text.specs.Verdict.{tasks_in}

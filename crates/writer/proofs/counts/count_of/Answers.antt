@@ -1,4 +1,3 @@
-use Prim.Native.Nat.{◌-◌}
 use native.Mathlib.Omega.{arith}
 use Rattle.sheet.proofs.Gather.{count_le}
 use Rattle.writer.specs.Parts.{flagged}

@@ -1,5 +1,5 @@
 use mathlib.Core.Bool.{false}
-use Prim.Native.Nat.{◌+◌, ◌*◌, ◌-◌}
+use Prim.Native.Nat.{◌+◌, ◌*◌}
 use native.Mathlib.Omega.{arith}
 use lib.ListN.{get_or}
 use Rattle.writer.proofs.Laying.{laid_none, laid_both}

@@ -1,6 +1,5 @@
 use mathlib.Core.Path.{◌≡◌, sym, ◌∙◌, ap, refl}
 use mathlib.Core.Bool.{not}
-use Prim.Native.Nat.{◌-◌}
 use native.Mathlib.Omega.{arith}
 use Rattle.hall.specs.Every.{lowest_from}
 use Rattle.hall.specs.Tests.{lowest_unopened}

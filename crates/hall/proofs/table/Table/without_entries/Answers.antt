@@ -1,4 +1,3 @@
-use Prim.Native.Nat.{◌-◌}
 use mathlib.Core.Path.{refl}
 use native.Mathlib.Numerals.{add-one}
 use Rattle.hall.specs.Effects.{without_entries, filled}
