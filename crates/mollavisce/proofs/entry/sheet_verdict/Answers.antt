@@ -12,8 +12,8 @@ pub returns-then-answer-ne0 : goal.returns-then-answer-ne0
 unfolding strip_after
 returns-then-answer-ne0 c =
     record {
-      no_route = λ l. absurd (omega (arith, l, c.if-route-gt-LARGEST_ROUTE.false));
-      short = λ _ l. absurd (omega (arith, l, c.if-strip-lt38.false));
+      no_route = λ l. absurd (omega arith);
+      short = λ _ l. absurd (omega arith);
       judged = λ _ _.
           let v = c.verdict_of-verdict in
           let refused : v.result.answer ≡ done → ⊥ = λ e. omega (arith, e, c.if-answer-ne0.true) in
@@ -32,7 +32,7 @@ returns c =
     let v = c.verdict_of-verdict in
     let answered : v.result.answer ≡ done = omega (arith, c.if-answer-ne0.false) in
     record {
-      no_route = λ l. absurd (omega (arith, l, c.if-route-gt-LARGEST_ROUTE.false));
-      short = λ _ l. absurd (omega (arith, l, c.if-strip-lt38.false));
+      no_route = λ l. absurd (omega arith);
+      short = λ _ l. absurd (omega arith);
       judged = λ _ _. (v.result, v.ensures, sym answered, rw (eq-eqb _ done answered) c.lay.ensures);
     }
