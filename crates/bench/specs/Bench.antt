@@ -178,7 +178,7 @@ rows =
     -- P11 The 33rd open task is 16; after task 4 ends, the next is 4.
     ∷ called fresh_table (replicate 32 open_task) open_task none_free 0
     ∷ called fresh_table (replicate 32 open_task ++ (call 1 4 0 0 ∷ [])) open_task done 4
-    -- P12 `Ac 02` is 300; `FF FF 03` is 65,535; `80 00` is 31; `80 80 04` as a phase is 32.
+    -- P12 `AC 02` is 300; `FF FF 03` is 65,535; `80 00` is 31; `80 80 04` as a phase is 32.
     ∷ read (172 ∷ 2 ∷ []) largest_phase (value 300 2)
     ∷ read (255 ∷ 255 ∷ 3 ∷ []) largest_phase (value 65535 3)
     ∷ read (128 ∷ 0 ∷ []) largest_phase (refused needless_group)

@@ -76,9 +76,11 @@ fn words_of(text: &str) -> &str {
     }
 }
 
-// What failed, a colon and the system's words for it, on standard error.
+// What failed, a colon and the system's words for it, on standard error; without the words where there is no memory for them.
 fn fail(rt: &HostRuntime, what: &str, error: io::Error) -> io::Result<()> {
-    let text = format!(in rt.alloc(); "{error}")?;
+    let Ok(text) = format!(in rt.alloc(); "{error}") else {
+        return eprintln!(rt; "{what}");
+    };
     let words = words_of(text.as_str());
     eprintln!(rt; "{what}: {words}")
 }
