@@ -1,5 +1,8 @@
 -- Document 01, 'Answer numbers', in its order. From 10 up they are refusals.
-use Rattle.std.specs.Prelude.{Bool, false, ◌||◌, List, [], ◌∷◌, ℕ, eqb}
+use Rattle.std.specs.Prelude.{Bool, false, ◌||◌, List, [], ◌∷◌, ℕ, eqb, Result, Ok, Err}
+use Rattle.answers.specs.declared.Refusal.{Refusal}
+use Rattle.answers.specs.declared.Refusal.TheVariants.{NoTask, NoPhaser, CallerBlocked, TargetBlocked, NotMember, AlreadyMember, PhaseTooLarge, NoneFree, NotBlocked, NotReached, InUse, NoStep}
+use Rattle.answers.specs.declared.Refusal.TheVariants.{EndsInside, NeedlessGroup, TooLarge, NotRising, Unknown, BytesAfter, NotOpen, ShortStrip, NoRoute, NoKind, NotSound, ShortBuffer}
 
 -- 0 / 1 / 2: done / wait passed / now blocked
 abbrev pub done : ℕ
@@ -102,7 +105,39 @@ not_sound = 44
 abbrev pub short_buffer : ℕ
 short_buffer = 43
 
+-- the number of each refusal
+abbrev pub number_of : Refusal → ℕ
+number_of NoTask = no_task
+number_of NoPhaser = no_phaser
+number_of CallerBlocked = caller_blocked
+number_of TargetBlocked = target_blocked
+number_of NotMember = not_member
+number_of AlreadyMember = already_member
+number_of PhaseTooLarge = phase_too_large
+number_of NoneFree = none_free
+number_of NotBlocked = not_blocked
+number_of NotReached = not_reached
+number_of InUse = in_use
+number_of NoStep = no_step
+number_of EndsInside = ends_inside
+number_of NeedlessGroup = needless_group
+number_of TooLarge = too_large
+number_of NotRising = not_rising
+number_of Unknown = unknown
+number_of BytesAfter = bytes_after
+number_of NotOpen = not_open
+number_of ShortStrip = short_strip
+number_of NoRoute = no_route
+number_of NoKind = no_kind
+number_of NotSound = not_sound
+number_of ShortBuffer = short_buffer
+
 -- n is one of the list
 abbrev pub among : ℕ → List ℕ → Bool
 among n [] = false
 among n (x ∷ l) = eqb n x || among n l
+
+-- a refusal's number, or 0 where nothing is refused
+abbrev pub answer_of : {A : Type 0} → Result A Refusal → ℕ
+answer_of (Ok a) = done
+answer_of (Err r) = number_of r
