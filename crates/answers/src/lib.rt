@@ -67,3 +67,70 @@ impl Refusal {
         self as u32
     }
 }
+
+// no such live task / no such open phaser
+pub const NO_TASK: u32 = 10;
+
+pub const NO_PHASER: u32 = 11;
+
+// caller is blocked / target is blocked
+pub const CALLER_BLOCKED: u32 = 12;
+
+pub const TARGET_BLOCKED: u32 = 20;
+
+// caller not a member / target already one
+pub const NOT_MEMBER: u32 = 13;
+
+pub const ALREADY_MEMBER: u32 = 14;
+
+// phase would exceed, or exceeds, 65,535
+pub const PHASE_TOO_LARGE: u32 = 15;
+
+// no free number of that sort
+pub const NONE_FREE: u32 = 16;
+
+// task to release is not blocked
+pub const NOT_BLOCKED: u32 = 17;
+
+// some member has not reached the awaited phase
+pub const NOT_REACHED: u32 = 18;
+
+// phaser has a member, or a task is blocked on it
+pub const IN_USE: u32 = 19;
+
+// the ring walk finds no named task to step to
+pub const NO_STEP: u32 = 22;
+
+// sheet ends inside a number, or before one
+pub const ENDS_INSIDE: u32 = 30;
+
+// number with a needless last group
+pub const NEEDLESS_GROUP: u32 = 31;
+
+// number too large
+pub const TOO_LARGE: u32 = 32;
+
+// list not rising (a repeat doesn't rise)
+pub const NOT_RISING: u32 = 33;
+
+// version not 1, or task state not 0 or 1
+pub const UNKNOWN: u32 = 34;
+
+// bytes after the sheet
+pub const BYTES_AFTER: u32 = 35;
+
+// sheet speaks of a phaser that isn't open
+pub const NOT_OPEN: u32 = 36;
+
+// answer strip under 38 bytes / route over 2 (document 02, M-101)
+pub const SHORT_STRIP: u32 = 40;
+
+pub const NO_ROUTE: u32 = 41;
+
+// no such kind of call / table not sound
+pub const NO_KIND: u32 = 42;
+
+pub const NOT_SOUND: u32 = 44;
+
+// document 02, M-100: buffer shorter than the sheet
+pub const SHORT_BUFFER: u32 = 43;
