@@ -9,7 +9,7 @@ pub fn entry_sound(member: bool, state: State, opened: bool, phase: Phase) -> bo
     ensures { result ≡ entry_sound member state opened phase.0 }
 {
     if member {
-        state.is_live() && (opened && phase.0 <= LARGEST_PHASE)
+        state.is_live() && opened && phase.0 <= LARGEST_PHASE
     } else {
         phase.0 == 0
     }
@@ -20,11 +20,10 @@ pub fn state_sound(opened: [bool; 16], state: State) -> bool
     ensures { result ≡ state_sound (open_in opened) state }
 {
     match state {
-        State::Free => true,
-        State::Running => true,
         State::Blocked(event) => {
             let p = event.phaser.0;
-            p < 16 && (opened[p as usize] && event.phase.0 <= LARGEST_PHASE)
+            p < 16 && opened[p as usize] && event.phase.0 <= LARGEST_PHASE
         }
+        _ => true,
     }
 }

@@ -5,29 +5,29 @@ ghost use Rattle.states.specs.State.{is_free, is_live, is_running, is_blocked};
 // "phases 0 to 65,535"
 pub const LARGEST_PHASE: u32 = 65_535;
 
-#[derive(Clone, Copy)]
+#[derive(Clone, Copy, Debug, PartialEq, Eq)]
 pub struct TaskNo(pub u64);
 
-#[derive(Clone, Copy)]
+#[derive(Clone, Copy, Debug, PartialEq, Eq)]
 pub struct PhaserNo(pub u64);
 
-#[derive(Clone, Copy)]
+#[derive(Clone, Copy, Debug, PartialEq, Eq)]
 pub struct Phase(pub u32);
 
-#[derive(Clone, Copy)]
+#[derive(Clone, Copy, Debug, PartialEq, Eq)]
 pub struct Event {
     pub phaser: PhaserNo,
     pub phase: Phase,
 }
 
-#[derive(Clone, Copy)]
+#[derive(Clone, Copy, Debug, PartialEq, Eq)]
 pub enum State {
     Free,
     Running,
     Blocked(Event),
 }
 
-#[derive(Clone, Copy)]
+#[derive(Clone, Copy, Debug, PartialEq, Eq)]
 pub struct Task {
     pub state: State,
 }
@@ -36,40 +36,24 @@ impl State {
     pub fn is_free(self) -> bool
         ensures { result ≡ is_free self }
     {
-        match self {
-            State::Free => true,
-            State::Running => false,
-            State::Blocked(_) => false,
-        }
+        matches!(self, State::Free)
     }
 
     pub fn is_live(self) -> bool
         ensures { result ≡ is_live self }
     {
-        match self {
-            State::Free => false,
-            State::Running => true,
-            State::Blocked(_) => true,
-        }
+        !self.is_free()
     }
 
     pub fn is_running(self) -> bool
         ensures { result ≡ is_running self }
     {
-        match self {
-            State::Free => false,
-            State::Running => true,
-            State::Blocked(_) => false,
-        }
+        matches!(self, State::Running)
     }
 
     pub fn is_blocked(self) -> bool
         ensures { result ≡ is_blocked self }
     {
-        match self {
-            State::Free => false,
-            State::Running => false,
-            State::Blocked(_) => true,
-        }
+        matches!(self, State::Blocked(_))
     }
 }

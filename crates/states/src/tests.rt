@@ -1,16 +1,14 @@
-// Document 01, 'The ten calls': tests in the order of their rows, over what a row sees of the table. Each function answers the first refusal, or 0
-// where every test holds.
+// Document 01, 'The ten calls': tests in the order of their rows, over what a row sees of the table. Each function answers the first refusal, if some
+// test fails.
 ghost use Rattle.std.specs.Prelude.{◌≡◌};
+ghost use Rattle.answers.specs.Answers.{answer_of};
 ghost use Rattle.states.specs.Tests.{refusal_of, caller_tests, member_tests, admit_tests, arrive_tests, wait_at_tests};
 
 use crate::state::{LARGEST_PHASE, Phase, State};
-use answers::{
-    ALREADY_MEMBER, CALLER_BLOCKED, DONE, NO_PHASER, NO_TASK, NOT_MEMBER, NOT_SOUND,
-    PHASE_TOO_LARGE, TARGET_BLOCKED,
-};
+use answers::Refusal;
 
 // What a row sees: whether the table is sound, the state of a task, whether a phaser is open, and the entry of the two.
-#[derive(Clone, Copy)]
+#[derive(Clone, Copy, Debug, PartialEq, Eq)]
 pub struct Seen {
     pub sound: bool,
     pub state: State,
@@ -20,85 +18,80 @@ pub struct Seen {
 }
 
 // The beginning of most rows: a sound table, a running task.
-pub fn caller_refusal(sound: bool, state: State) -> u32
-    ensures { result ≡ refusal_of (caller_tests sound state) }
+#[tactic(auto, unfolding(crate::specs::Tests::refusal_of, crate::specs::Tests::caller_tests))]
+pub fn caller_refusal(sound: bool, state: State) -> Result<(), Refusal>
+    ensures { answer_of result ≡ refusal_of (caller_tests sound state) }
 {
     if !sound {
-        return NOT_SOUND;
+        return Err(Refusal::NotSound);
     }
     if !state.is_live() {
-        return NO_TASK;
+        return Err(Refusal::NoTask);
     }
     if !state.is_running() {
-        return CALLER_BLOCKED;
+        return Err(Refusal::CallerBlocked);
     }
-    DONE
+    Ok(())
 }
 
-pub fn member_refusal(seen: Seen) -> u32
-    ensures { result ≡ refusal_of (member_tests seen) }
+#[tactic(auto, using(crate::proofs::Refusals::member_first))]
+pub fn member_refusal(seen: Seen) -> Result<(), Refusal>
+    ensures { answer_of result ≡ refusal_of (member_tests seen) }
 {
-    let state = seen.state;
-    let refusal = caller_refusal(seen.sound, state);
-    if refusal != DONE {
-        return refusal;
-    }
+    caller_refusal(seen.sound, seen.state)?;
     if !seen.opened {
-        return NO_PHASER;
+        return Err(Refusal::NoPhaser);
     }
     if !seen.member {
-        return NOT_MEMBER;
+        return Err(Refusal::NotMember);
     }
-    DONE
+    Ok(())
 }
 
-pub fn admit_refusal(seen: Seen, target: State, joined: bool) -> u32
-    ensures { result ≡ refusal_of (admit_tests seen target joined) }
+#[tactic(auto, using(crate::proofs::Refusals::admit_first))]
+pub fn admit_refusal(seen: Seen, target: State, joined: bool) -> Result<(), Refusal>
+    ensures { answer_of result ≡ refusal_of (admit_tests seen target joined) }
 {
-    let refusal = member_refusal(seen);
-    if refusal != DONE {
-        return refusal;
-    }
+    member_refusal(seen)?;
     if !target.is_live() {
-        return NO_TASK;
+        return Err(Refusal::NoTask);
     }
     if target.is_blocked() {
-        return TARGET_BLOCKED;
+        return Err(Refusal::TargetBlocked);
     }
     if joined {
-        return ALREADY_MEMBER;
+        return Err(Refusal::AlreadyMember);
     }
-    DONE
+    Ok(())
 }
 
-pub fn arrive_refusal(seen: Seen) -> u32
-    ensures { result ≡ refusal_of (arrive_tests seen) }
+#[tactic(auto, using(crate::proofs::Refusals::arrive_first))]
+pub fn arrive_refusal(seen: Seen) -> Result<(), Refusal>
+    ensures { answer_of result ≡ refusal_of (arrive_tests seen) }
 {
-    let refusal = member_refusal(seen);
-    if refusal != DONE {
-        return refusal;
+    member_refusal(seen)?;
+    if seen.phase.0 >= LARGEST_PHASE {
+        return Err(Refusal::PhaseTooLarge);
     }
-    let phase = seen.phase.0;
-    if phase >= LARGEST_PHASE {
-        return PHASE_TOO_LARGE;
-    }
-    DONE
+    Ok(())
 }
 
-pub fn wait_at_refusal(seen: Seen, stated: u64) -> u32
-    ensures { result ≡ refusal_of (wait_at_tests seen stated) }
+#[tactic(auto, using(crate::proofs::Refusals::wait_at_first))]
+pub fn wait_at_refusal(seen: Seen, stated: u64) -> Result<(), Refusal>
+    ensures { answer_of result ≡ refusal_of (wait_at_tests seen stated) }
 {
-    let state = seen.state;
-    let refusal = caller_refusal(seen.sound, state);
-    if refusal != DONE {
-        return refusal;
-    }
-    let opened = seen.opened;
+    let Seen {
+        sound,
+        state,
+        opened,
+        ..
+    } = seen;
+    caller_refusal(sound, state)?;
     if !opened {
-        return NO_PHASER;
+        return Err(Refusal::NoPhaser);
     }
-    if stated > LARGEST_PHASE as u64 {
-        return PHASE_TOO_LARGE;
+    if stated > u64::from(LARGEST_PHASE) {
+        return Err(Refusal::PhaseTooLarge);
     }
-    DONE
+    Ok(())
 }
