@@ -2,7 +2,7 @@
 use mathlib.Core.Path.{◌≡◌, refl, ap, sym, ◌∙◌}
 use mathlib.Core.Logic.{◌⊎◌, inl, inr, ⊎_elim}
 use mathlib.Core.Bool.{Bool, true, false, ◌&&◌, cond}
-use mathlib.Core.List.{List}
+use mathlib.Core.List.{List, []}
 use Prim.Native.Nat.{ℕ, zero, suc, ◌+◌, ◌<◌, ◌≤◌}
 use native.Mathlib.Decide.{ℕ_discrete}
 use native.Mathlib.Nat.{eq-or-lt_of_le, le_of_suc-le-suc}
@@ -11,6 +11,13 @@ use lib.Dec.{eqb, ltb}
 use lib.ListN.{get_or, set, length, length-set}
 use lib.Seq.{get_or-set_same, get_or-set_other}
 use borrow.Author.Tests.{eqb-true, eqb-false, ltb-true, ltb-false}
+use Rattle.std.proofs.Common.{Option, Some, None, MatchOption, replicate, add-one}
+use Rattle.std.proofs.Math.Seq.{paste}
+use Rattle.std.proofs.lemmas.List.{length-replicate}
+use Rattle.std.proofs.lemmas.List.Edits.{paste_none, fill_from_more}
+use Rattle.std.proofs.lemmas.Slice.{put_mid-paste}
+use borrow.Rule.Slice.PartMut.{put_mid}
+use Rattle.std.specs.List.{AllWithin, HoldsAt}
 use Rattle.hall.specs.Effects.{filled}
 use Rattle.hall.specs.Every.{every, lowest_from}
 use Rattle.states.proofs.Truth.{clash}
@@ -64,6 +71,25 @@ lowest_is f n q h e lower = go (lowest_from f 0 n) refl (ltb (lowest_from f 0 n)
     go m i false true x y = let l = ltb-true q m y in absurd (clash e (lowest_lower f 0 n q (omega arith) (omega (arith, i))))
     go m i false false x y = let l = ltb-false m q x in let r = ltb-false q m y in omega arith
 
+-- and what `position` finds in a list is where the search stops
+pub lowest_first : {A : Type 0} (test : ℕ → Bool) (p : A → Bool) (xs : List A) (d : A) (n : ℕ) → length xs ≡ n
+    → ((j : ℕ) → j < n → test j ≡ p (get_or xs j d)) → (r : Option ℕ)
+    → MatchOption r (AllWithin (λ x. p x ≡ false) xs 0 (length xs))
+    (λ i. (i < length xs) × HoldsAt (λ x. p x ≡ true) xs i × AllWithin (λ x. p x ≡ false) xs 0 i)
+    → MatchOption r (n ≤ lowest_from test 0 n) (λ i. (i < n) × (i ≡ lowest_from test 0 n))
+lowest_first test p xs d n l h None none_is = go (ltb (lowest_from test 0 n) n) refl
+  where
+    go : (b : Bool) → ltb (lowest_from test 0 n) n ≡ b → n ≤ lowest_from test 0 n
+    go true q =
+        let m = ltb-true (lowest_from test 0 n) n q in
+        absurd (clash (lowest_holds test 0 n (omega arith)) (h (lowest_from test 0 n) m ∙ none_is (lowest_from test 0 n) d (omega arith) (omega arith)))
+    go false q = ltb-false (lowest_from test 0 n) n q
+lowest_first test p xs d n l h (Some i) (below, here, before) =
+    let k : i < n = omega arith in (
+      k,
+      sym (lowest_is test n i k (h i k ∙ here d) (λ r g. h r (omega arith) ∙ before r d (omega arith) g)),
+    )
+
 -- ---- what is read after writes
 module _ {A : Type 0} (l : List A) where
   -- after one: the new element at its own place, else the old one
@@ -97,3 +123,14 @@ module _ {A : Type 0} (l : List A) where
       (λ (q : k < n).
       get_or-set_other (filled l b n v) (b + n) (b + k) v d (λ e. omega (arith, e)) ∙ filled_in b n v k d q (omega arith))
       (eq-or-lt_of_le (le_of_suc-le-suc h))
+
+  -- a part that is written over with copies of it
+  paste_filled : (b n : ℕ) (v : A) → b + n ≤ length l → paste l b (replicate n v) n ≡ filled l b n v
+  unfolding filled
+  paste_filled b zero v h = sym (paste_none l b [])
+  paste_filled b (suc n) v h =
+      sym (rw add-one at (fill_from_more l b n v (omega arith))) ∙ ap (λ (x : List A). set x (b + n) v) (paste_filled b n v (omega arith))
+
+  pub part_filled : (b k n : ℕ) (v : A) (part : List A) → part ≡ replicate n v → n ≡ k → b + n ≤ length l
+      → put_mid b k l part ≡ filled l b n v
+  part_filled b k n v part e q h = put_mid-paste b k l part (replicate n v) n e q (sym (length-replicate n v)) ∙ paste_filled b n v h

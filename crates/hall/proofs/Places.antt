@@ -1,6 +1,6 @@
 -- Where a table's arrays hold what it says: the place of an entry is task times sixteen plus phaser.
 use mathlib.Core.Path.{◌≡◌, refl, ap, sym}
-use mathlib.Core.Bool.{Bool, true, false, cond, and-false, true≢false}
+use mathlib.Core.Bool.{Bool, true, false, ◌&&◌, not, cond, and-false, true≢false}
 use Prim.Native.Nat.{ℕ, ◌+◌, ◌*◌, ◌/◌, ◌%◌, ◌<◌, ◌≤◌}
 use native.Mathlib.Omega.{arith}
 use lib.Dec.{ltb}
@@ -8,6 +8,7 @@ use lib.ListN.{get_or}
 use borrow.Author.Tests.{lt-ltb, le-ltb, ltb-true}
 use Rattle.states.specs.Parts.{entry_sound, open_in, state_sound}
 use Rattle.states.specs.State.{free_task, phase0, is_live}
+use Rattle.states.specs.Waiting.{waits_at}
 use Rattle.hall.specs.Table.{state_at, open_at, member_at, phase_at}
 use Rattle.states.specs.declared.state.State.TheVariants.{Free}
 use Rattle.hall.specs.declared.table.Table.{Table}
@@ -73,3 +74,11 @@ module _ (t : Table) where
   pub state_read : (k : ℕ) → k < 32 → state_test k ≡ state_sound (open_in t.opened) (get_or t.tasks k free_task).state
   unfolding open_at
   state_read k h = ap (state_sound (open_in t.opened)) (state_in k h)
+
+  -- that task k is no member of phaser p, and doesn't wait at it
+  abbrev pub unused_test : ℕ → ℕ → Bool
+  unused_test p k = not (member_at t k p) && not (waits_at (state_at t k) p)
+
+  pub unused_read : (p k : ℕ) → p < 16 → k < 32
+      → unused_test p k ≡ not (get_or t.members (k * 16 + p) false) && not (waits_at (get_or t.tasks k free_task).state p)
+  unused_read p k g h = simp (member_in k p h g, state_in k h)

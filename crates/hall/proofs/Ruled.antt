@@ -7,7 +7,9 @@ use Prim.Native.Nat.{ℕ, ◌<◌, ◌≤◌}
 use native.Mathlib.Omega.{arith}
 use lib.Dec.{ltb, eqb}
 use borrow.Author.Tests.{leb-true, ltb-true, ne_eqb}
-use Rattle.answers.specs.Answers.{wait_passed, now_blocked, none_free}
+use Rattle.answers.specs.Answers.{wait_passed, now_blocked, none_free, not_sound, number_of}
+use Rattle.answers.specs.declared.Refusal.{Refusal}
+use Rattle.answers.proofs.Numbers.{number_high}
 use Rattle.states.specs.State.{event, largest_phase}
 use Rattle.states.specs.Tests.{Test, ◌else◌, refusal_of, caller_tests, member_tests, admit_tests, arrive_tests, wait_at_tests}
 use Rattle.states.specs.Waiting.{awaiting}
@@ -16,7 +18,7 @@ use Rattle.hall.specs.Calls.{called, refused, ruled, waits}
 use Rattle.hall.specs.Effects.{with_state}
 use Rattle.hall.specs.Parts.{sound_of}
 use Rattle.hall.specs.Table.{state_at, member_at, phase_at}
-use Rattle.hall.specs.Tests.{lowest_unopened, seen_at, open_phaser_tests, close_phaser_tests, release_tests}
+use Rattle.hall.specs.Tests.{lowest_free, lowest_unopened, seen_at, open_task_tests, open_phaser_tests, close_phaser_tests, release_tests}
 use Rattle.hall.specs.Waiting.{reached_of}
 use Rattle.hall.specs.declared.calls.Called.{Called}
 use Rattle.hall.specs.declared.table.Table.{Table}
@@ -27,6 +29,13 @@ module _ (t : Table) (tests : List Test) (effect : Called) where
   pub ruled_refused : (n : ℕ) → n ≡ refusal_of tests → (n ≡ 0 → ⊥) → refused t n ≡ ruled t tests effect
   unfolding ruled
   ruled_refused n e h = simp (← e, ne_eqb n 0 h)
+
+  pub refused_by : (r : Refusal) → number_of r ≡ refusal_of tests → refused t (number_of r) ≡ ruled t tests effect
+  refused_by r e = let high = number_high r in ruled_refused (number_of r) e (λ z. omega (arith, z))
+
+  pub accepted_by : refusal_of tests ≡ 0 → effect ≡ ruled t tests effect
+  unfolding ruled
+  accepted_by e = simp e
 
   -- where all hold it is its effect
   pub ruled_is : Passed tests → ruled t tests effect ≡ effect
@@ -48,6 +57,10 @@ module _ (t : Table) (tests : List Test) (effect : Called) where
     ruled_cases (λ c. c.answer < 10 → Passed tests) r (each_high (λ n. n < 10 → Passed tests) (λ n h e. absurd (omega arith)) tests r) (λ p z. p),
     λ p. subst (λ (c : Called). c.answer < 10) (sym (ruled_is p)) l,
   )
+
+pub open_task_first : (t : Table) → refusal_of (open_task_tests t) ≡ cond (sound_of t) (cond (ltb (lowest_free t) 32) 0 none_free) not_sound
+unfolding open_task_tests refusal_of
+open_task_first t = refl
 
 pub open_phaser_first : (t : Table) (a : ℕ) → refusal_of (open_phaser_tests t a)
     ≡ first_of (refusal_of (caller_tests (sound_of t) (state_at t a))) (cond (ltb (lowest_unopened t) 16) 0 none_free)
@@ -101,3 +114,18 @@ module _ (t : Table) (a p : ℕ) where
   admit_in_range b e =
       let h = passed (admit_tests (seen_at t a p) (state_at t b) (member_at t b p)) refl e in
       (live_below t b h.1.1.1.1.1.0, open_below t p h.1.1.1.0)
+
+-- what the calls of the code go by
+pub ruleset call_laws = (
+  refused_by,
+  accepted_by,
+  open_task_first,
+  open_phaser_first,
+  caller_in_range,
+  release_in_range,
+  close_in_range,
+  member_in_range,
+  arrive_in_range,
+  wait_at_in_range,
+  admit_in_range,
+)

@@ -1,12 +1,13 @@
 // Document 01, 'The ten calls': each takes the table and hands the next table back, with an answer and a value.
 ghost use Rattle.std.specs.Prelude.{◌≡◌, ◌<◌};
+ghost use Rattle.answers.specs.Answers.{number_of};
 ghost use Rattle.hall.specs.Table.{entry_of};
 ghost use Rattle.hall.specs.Effects.{with_state, with_entry, with_open, without_entries};
 ghost use Rattle.hall.specs.Calls.{called, refused, open_task_of, end_task_of, open_phaser_of, close_phaser_of, admit_of};
 ghost use Rattle.hall.specs.Calls.{leave_of, arrive_of, waits, wait_of, wait_at_of, release_of, call_of};
 
 use crate::table::Table;
-use answers::{DONE, NO_KIND, NONE_FREE, NOT_SOUND, NOW_BLOCKED, WAIT_PASSED};
+use answers::{DONE, NOW_BLOCKED, Refusal, WAIT_PASSED};
 use states::state::{Event, Phase, PhaserNo, State, Task, TaskNo};
 use states::tests::{
     admit_refusal, arrive_refusal, caller_refusal, member_refusal, wait_at_refusal,
@@ -32,37 +33,36 @@ pub struct Called {
 }
 
 impl Table {
+    #[tactic(auto, unfolding(crate::specs::Effects::with_state))]
     fn with_state(self, task: TaskNo, state: State) -> Table
         requires { task.0 < 32 }
         ensures { result ≡ with_state self task.0 state }
     {
-        let k = task.0 as usize;
         let mut next = self;
-        next.tasks[k] = Task { state };
+        next.tasks[task.0 as usize] = Task { state };
         next
     }
 
+    #[tactic(auto, unfolding(crate::specs::Effects::with_entry))]
     fn with_entry(self, task: TaskNo, phaser: PhaserNo, member: bool, phase: Phase) -> Table
         requires task { task.0 < 32 }
         requires phaser { phaser.0 < 16 }
         ensures { result ≡ with_entry self task.0 phaser.0 (entry_of member phase.0) }
     {
-        let k = task.0;
-        let p = phaser.0;
-        let i = (k * 16 + p) as usize;
+        let i = (task.0 * 16 + phaser.0) as usize;
         let mut next = self;
         next.phases[i] = phase;
         next.members[i] = member;
         next
     }
 
+    #[tactic(auto, unfolding(crate::specs::Effects::with_open))]
     fn with_open(self, phaser: PhaserNo, opened: bool) -> Table
         requires { phaser.0 < 16 }
         ensures { result ≡ with_open self phaser.0 opened }
     {
-        let p = phaser.0 as usize;
         let mut next = self;
-        next.opened[p] = opened;
+        next.opened[phaser.0 as usize] = opened;
         next
     }
 
@@ -70,15 +70,10 @@ impl Table {
         requires { task.0 < 32 }
         ensures { result ≡ without_entries self task.0 16 }
     {
-        let k = task.0 as usize;
+        let first = task.0 as usize * 16;
         let mut next = self;
-        let mut p: usize = 0;
-        while p < 16 {
-            let i = k * 16 + p;
-            next.phases[i] = Phase(0);
-            next.members[i] = false;
-            p += 1;
-        }
+        next.phases[first..first + 16].fill(Phase(0));
+        next.members[first..first + 16].fill(false);
         next
     }
 
@@ -93,31 +88,31 @@ impl Table {
     }
 
     // "value 0, the table .. exactly as before"
-    fn refused(self, refusal: u32) -> Called
-        ensures { result ≡ refused self refusal }
+    fn refused(self, refusal: Refusal) -> Called
+        ensures { result ≡ refused self (number_of refusal) }
     {
-        self.called(refusal, 0)
+        self.called(refusal.number(), 0)
     }
 
+    #[tactic(auto, using(crate::proofs::Ruled::call_laws), unfolding(crate::specs::Calls::open_task_of, crate::specs::Calls::ruled))]
     pub fn open_task(self) -> Called
         ensures { result ≡ open_task_of self }
     {
         if !self.is_sound() {
-            return self.refused(NOT_SOUND);
+            return self.refused(Refusal::NotSound);
         }
-        let task = self.lowest_free();
-        if task.0 >= 32 {
-            return self.refused(NONE_FREE);
-        }
+        let Some(task) = self.lowest_free() else {
+            return self.refused(Refusal::NoneFree);
+        };
         let next = self.with_state(task, State::Running);
         next.called(DONE, task.0)
     }
 
+    #[tactic(auto, using(crate::proofs::Ruled::call_laws), unfolding(crate::specs::Calls::end_task_of, crate::specs::Tests::end_task_tests))]
     pub fn end_task(self, task: TaskNo) -> Called
         ensures { result ≡ end_task_of self task.0 }
     {
-        let refusal = caller_refusal(self.is_sound(), self.state_at(task));
-        if refusal != DONE {
+        if let Err(refusal) = caller_refusal(self.is_sound(), self.state_at(task)) {
             return self.refused(refusal);
         }
         let left = self.without_entries(task);
@@ -125,72 +120,76 @@ impl Table {
         ended.called(DONE, 0)
     }
 
+    #[tactic(auto, using(crate::proofs::Ruled::call_laws), unfolding(crate::specs::Calls::open_phaser_of, crate::specs::Calls::ruled))]
     pub fn open_phaser(self, task: TaskNo) -> Called
         ensures { result ≡ open_phaser_of self task.0 }
     {
-        let refusal = caller_refusal(self.is_sound(), self.state_at(task));
-        if refusal != DONE {
+        if let Err(refusal) = caller_refusal(self.is_sound(), self.state_at(task)) {
             return self.refused(refusal);
         }
-        let phaser = self.lowest_unopened();
-        if phaser.0 >= 16 {
-            return self.refused(NONE_FREE);
-        }
+        let Some(phaser) = self.lowest_unopened() else {
+            return self.refused(Refusal::NoneFree);
+        };
         let opened = self.with_open(phaser, true);
         let next = opened.with_entry(task, phaser, true, Phase(0));
         next.called(DONE, phaser.0)
     }
 
+    #[tactic(auto, using(crate::proofs::Ruled::call_laws), unfolding(crate::specs::Calls::close_phaser_of))]
     pub fn close_phaser(self, phaser: PhaserNo) -> Called
         ensures { result ≡ close_phaser_of self phaser.0 }
     {
-        let refusal = self.close_phaser_refusal(phaser);
-        if refusal != DONE {
+        if let Err(refusal) = self.close_phaser_refusal(phaser) {
             return self.refused(refusal);
         }
         let closed = self.with_open(phaser, false);
         closed.called(DONE, 0)
     }
 
+    #[tactic(auto, using(crate::proofs::Ruled::call_laws), unfolding(crate::specs::Calls::admit_of))]
     pub fn admit(self, caller: TaskNo, phaser: PhaserNo, target: TaskNo) -> Called
         ensures { result ≡ admit_of self caller.0 phaser.0 target.0 }
     {
         let seen = self.seen(caller, phaser);
-        let refusal = admit_refusal(seen, self.state_at(target), self.member_at(target, phaser));
-        if refusal != DONE {
+        if let Err(refusal) = admit_refusal(
+            seen,
+            self.state_at(target),
+            self.member_at(target, phaser),
+        ) {
             return self.refused(refusal);
         }
         let phase = seen.phase;
         let next = self.with_entry(target, phaser, true, phase);
-        next.called(DONE, phase.0 as u64)
+        next.called(DONE, u64::from(phase.0))
     }
 
+    #[tactic(auto, using(crate::proofs::Ruled::call_laws), unfolding(crate::specs::Calls::leave_of))]
     pub fn leave(self, task: TaskNo, phaser: PhaserNo) -> Called
         ensures { result ≡ leave_of self task.0 phaser.0 }
     {
-        let refusal = member_refusal(self.seen(task, phaser));
-        if refusal != DONE {
+        if let Err(refusal) = member_refusal(self.seen(task, phaser)) {
             return self.refused(refusal);
         }
         let gone = self.with_entry(task, phaser, false, Phase(0));
         gone.called(DONE, 0)
     }
 
+    #[tactic(auto, using(crate::proofs::Ruled::call_laws), unfolding(crate::specs::Calls::arrive_of))]
     pub fn arrive(self, task: TaskNo, phaser: PhaserNo) -> Called
         ensures { result ≡ arrive_of self task.0 phaser.0 }
     {
         let seen = self.seen(task, phaser);
-        let refusal = arrive_refusal(seen);
-        if refusal != DONE {
+        if let Err(refusal) = arrive_refusal(seen) {
             return self.refused(refusal);
         }
         let kept = seen.phase.0;
         let higher = kept + 1;
         let next = self.with_entry(task, phaser, true, Phase(higher));
-        next.called(DONE, higher as u64)
+        next.called(DONE, u64::from(higher))
     }
 
     // What both waits do: pass, or block the caller on the event.
+    #[tactic(auto, unfolding(crate::specs::Calls::waits))]
     fn waits(self, task: TaskNo, phaser: PhaserNo, phase: Phase) -> Called
         requires { task.0 < 32 }
         ensures { result ≡ waits self task.0 phaser.0 phase.0 }
@@ -203,33 +202,33 @@ impl Table {
         next.called(NOW_BLOCKED, 0)
     }
 
+    #[tactic(auto, using(crate::proofs::Ruled::call_laws), unfolding(crate::specs::Calls::wait_of))]
     pub fn wait(self, task: TaskNo, phaser: PhaserNo) -> Called
         ensures { result ≡ wait_of self task.0 phaser.0 }
     {
         let seen = self.seen(task, phaser);
-        let refusal = member_refusal(seen);
-        if refusal != DONE {
+        if let Err(refusal) = member_refusal(seen) {
             return self.refused(refusal);
         }
         let phase = seen.phase;
         self.waits(task, phaser, phase)
     }
 
+    #[tactic(auto, using(crate::proofs::Ruled::call_laws), unfolding(crate::specs::Calls::wait_at_of))]
     pub fn wait_at(self, task: TaskNo, phaser: PhaserNo, stated: u64) -> Called
         ensures { result ≡ wait_at_of self task.0 phaser.0 stated }
     {
-        let refusal = wait_at_refusal(self.seen(task, phaser), stated);
-        if refusal != DONE {
+        if let Err(refusal) = wait_at_refusal(self.seen(task, phaser), stated) {
             return self.refused(refusal);
         }
         self.waits(task, phaser, Phase(stated as u32))
     }
 
+    #[tactic(auto, using(crate::proofs::Ruled::call_laws), unfolding(crate::specs::Calls::release_of))]
     pub fn release(self, task: TaskNo) -> Called
         ensures { result ≡ release_of self task.0 }
     {
-        let refusal = self.release_refusal(task);
-        if refusal != DONE {
+        if let Err(refusal) = self.release_refusal(task) {
             return self.refused(refusal);
         }
         let awake = self.with_state(task, State::Running);
@@ -237,17 +236,14 @@ impl Table {
     }
 
     // "any other kind is 42, tested before all else"
+    #[tactic(auto, unfolding(crate::specs::Calls::call_of))]
     pub fn call(self, call: Call) -> Called
         ensures { result ≡ call_of self call }
     {
-        let kind = call.kind;
-        if kind >= KINDS {
-            return self.refused(NO_KIND);
-        }
         let task = TaskNo(call.task);
         let phaser = PhaserNo(call.phaser);
         let other = call.other;
-        match kind {
+        match call.kind {
             0 => self.open_task(),
             1 => self.end_task(task),
             2 => self.open_phaser(task),
@@ -257,8 +253,8 @@ impl Table {
             6 => self.arrive(task, phaser),
             7 => self.wait(task, phaser),
             8 => self.wait_at(task, phaser, other),
-            // 9: no other number is left
-            _ => self.release(task),
+            9 => self.release(task),
+            _ => self.refused(Refusal::NoKind),
         }
     }
 }

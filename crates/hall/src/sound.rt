@@ -10,22 +10,15 @@ impl Table {
     pub fn is_sound(self) -> bool
         ensures { result ≡ sound_of self }
     {
-        let opened = self.opened;
         let mut entries = true;
         let mut states = true;
-        let mut k: usize = 0;
-        while k < 32 {
-            let task = self.tasks[k];
-            let state = task.state;
-            let mut p: usize = 0;
-            while p < 16 {
+        for k in 0..32 {
+            let state = self.tasks[k].state;
+            for p in 0..16 {
                 let i = k * 16 + p;
-                entries = entries
-                    & entry_sound(self.members[i], state, self.opened[p], self.phases[i]);
-                p += 1;
+                entries &= entry_sound(self.members[i], state, self.opened[p], self.phases[i]);
             }
-            states = states & state_sound(opened, state);
-            k += 1;
+            states &= state_sound(self.opened, state);
         }
         entries & states
     }

@@ -13,6 +13,7 @@ pub struct Table {
 }
 
 impl Table {
+    #[tactic(auto, unfolding(crate::specs::Table::fresh_table))]
     pub fn fresh() -> Table
         ensures { result ≡ fresh_table }
     {
@@ -33,44 +34,37 @@ impl Table {
         self
     }
 
+    #[tactic(auto, unfolding(crate::specs::Table::state_at))]
     pub fn state_at(self, task: TaskNo) -> State
         ensures { result ≡ state_at self task.0 }
     {
-        let k = task.0;
-        if k < 32 {
-            let found = self.tasks[k as usize];
-            found.state
+        if task.0 < 32 {
+            self.tasks[task.0 as usize].state
         } else {
             State::Free
         }
     }
 
+    #[tactic(auto, unfolding(crate::specs::Table::open_at))]
     pub fn open_at(self, phaser: PhaserNo) -> bool
         ensures { result ≡ open_at self phaser.0 }
     {
-        let p = phaser.0;
-        p < 16 && self.opened[p as usize]
+        phaser.0 < 16 && self.opened[phaser.0 as usize]
     }
 
+    #[tactic(auto, unfolding(crate::specs::Table::member_at))]
     pub fn member_at(self, task: TaskNo, phaser: PhaserNo) -> bool
         ensures { result ≡ member_at self task.0 phaser.0 }
     {
-        let k = task.0;
-        let p = phaser.0;
-        k < 32 && (p < 16 && self.members[(k * 16 + p) as usize])
+        task.0 < 32 && phaser.0 < 16 && self.members[(task.0 * 16 + phaser.0) as usize]
     }
 
+    #[tactic(auto, unfolding(crate::specs::Table::phase_at))]
     pub fn phase_at(self, task: TaskNo, phaser: PhaserNo) -> Phase
         ensures { result.0 ≡ phase_at self task.0 phaser.0 }
     {
-        let k = task.0;
-        let p = phaser.0;
-        if k < 32 {
-            if p < 16 {
-                self.phases[(k * 16 + p) as usize]
-            } else {
-                Phase(0)
-            }
+        if task.0 < 32 && phaser.0 < 16 {
+            self.phases[(task.0 * 16 + phaser.0) as usize]
         } else {
             Phase(0)
         }

@@ -1,56 +1,30 @@
 // Document 01, 'The ten calls': what the rows see of a table, and the tests that need the whole of it.
-ghost use Rattle.std.specs.Prelude.{◌≡◌, false, ◌<◌};
+ghost use Rattle.std.specs.Prelude.{◌≡◌, ◌<◌, ◌≤◌, MatchOption};
+ghost use Rattle.answers.specs.Answers.{answer_of};
 ghost use Rattle.states.specs.Tests.{refusal_of};
 ghost use Rattle.hall.specs.Tests.{lowest_free, lowest_unopened, unused, seen_at, close_phaser_tests, release_tests};
 
 use crate::table::Table;
-use answers::{DONE, IN_USE, NO_PHASER, NO_TASK, NOT_BLOCKED, NOT_REACHED, NOT_SOUND};
-use states::state::{Phase, PhaserNo, State, TaskNo};
+use answers::Refusal;
+use states::state::{PhaserNo, State, TaskNo};
 use states::tests::Seen;
 use states::waiting::waits_at;
 
-// What a row sees where there is no such entry.
-fn no_entry(sound: bool, state: State, opened: bool) -> Seen
-    ensures { result ≡ record { sound = sound; state = state; opened = opened; member = false; phase = record { 0 = 0 } } }
-{
-    Seen {
-        sound,
-        state,
-        opened,
-        member: false,
-        phase: Phase(0),
-    }
-}
-
 impl Table {
-    // The lowest free task number, or 32.
-    pub(crate) fn lowest_free(self) -> TaskNo
-        ensures { result.0 ≡ lowest_free self }
+    // The lowest free task number.
+    pub(crate) fn lowest_free(self) -> Option<TaskNo>
+        ensures { MatchOption result (32 ≤ lowest_free self) (λ k. (k.0 < 32) × (k.0 ≡ lowest_free self)) }
     {
-        let mut k: usize = 0;
-        while k < 32 {
-            let task = self.tasks[k];
-            let state = task.state;
-            if state.is_free() {
-                return TaskNo(k as u64);
-            }
-            k += 1;
-        }
-        TaskNo(32)
+        let k = self.tasks.iter().position(|task| task.state.is_free())?;
+        Some(TaskNo(k as u64))
     }
 
-    // The lowest number of a phaser that is not open, or 16.
-    pub(crate) fn lowest_unopened(self) -> PhaserNo
-        ensures { result.0 ≡ lowest_unopened self }
+    // The lowest number of a phaser that is not open.
+    pub(crate) fn lowest_unopened(self) -> Option<PhaserNo>
+        ensures { MatchOption result (16 ≤ lowest_unopened self) (λ p. (p.0 < 16) × (p.0 ≡ lowest_unopened self)) }
     {
-        let mut p: usize = 0;
-        while p < 16 {
-            if !self.opened[p] {
-                return PhaserNo(p as u64);
-            }
-            p += 1;
-        }
-        PhaserNo(16)
+        let p = self.opened.iter().position(|opened| !*opened)?;
+        Some(PhaserNo(p as u64))
     }
 
     // Whether no task is a member of a phaser or waits at it.
@@ -59,85 +33,55 @@ impl Table {
         ensures { result ≡ unused self phaser.0 }
     {
         let column = phaser.0 as usize;
-        let mut k: usize = 0;
-        while k < 32 {
-            let i = k * 16 + column;
-            let task = self.tasks[k];
-            let state = task.state;
-            if self.members[i] {
+        for k in 0..32 {
+            if self.members[k * 16 + column] || waits_at(self.tasks[k].state, phaser) {
                 return false;
             }
-            if waits_at(state, phaser) {
-                return false;
-            }
-            k += 1;
         }
         true
     }
 
-    // What a row sees of a task and a phaser. It is read here and not by a method for each part, since each method on a table copies the table.
+    // What a row sees of a task and a phaser.
     pub(crate) fn seen(self, task: TaskNo, phaser: PhaserNo) -> Seen
         ensures { result ≡ seen_at self task.0 phaser.0 }
     {
-        let sound = self.is_sound();
-        let k = task.0;
-        let p = phaser.0;
-        if k < 32 {
-            let found = self.tasks[k as usize];
-            let state = found.state;
-            if p < 16 {
-                let i = (k * 16 + p) as usize;
-                let opened = self.opened[p as usize];
-                let member = self.members[i];
-                let phase = self.phases[i];
-                return Seen {
-                    sound,
-                    state,
-                    opened,
-                    member,
-                    phase,
-                };
-            }
-            return no_entry(sound, state, false);
+        Seen {
+            sound: self.is_sound(),
+            state: self.state_at(task),
+            opened: self.open_at(phaser),
+            member: self.member_at(task, phaser),
+            phase: self.phase_at(task, phaser),
         }
-        if p < 16 {
-            return no_entry(sound, State::Free, self.opened[p as usize]);
-        }
-        no_entry(sound, State::Free, false)
     }
 
-    pub(crate) fn close_phaser_refusal(self, phaser: PhaserNo) -> u32
-        ensures { result ≡ refusal_of (close_phaser_tests self phaser.0) }
+    #[tactic(auto, using(crate::proofs::Places::open_below), unfolding(states::specs::Tests::refusal_of, crate::specs::Tests::close_phaser_tests))]
+    pub(crate) fn close_phaser_refusal(self, phaser: PhaserNo) -> Result<(), Refusal>
+        ensures { answer_of result ≡ refusal_of (close_phaser_tests self phaser.0) }
     {
         if !self.is_sound() {
-            return NOT_SOUND;
+            return Err(Refusal::NotSound);
         }
         if !self.open_at(phaser) {
-            return NO_PHASER;
+            return Err(Refusal::NoPhaser);
         }
         if !self.unused(phaser) {
-            return IN_USE;
+            return Err(Refusal::InUse);
         }
-        DONE
+        Ok(())
     }
 
-    pub(crate) fn release_refusal(self, task: TaskNo) -> u32
-        ensures { result ≡ refusal_of (release_tests self task.0) }
+    #[tactic(auto, unfolding(states::specs::Tests::refusal_of, crate::specs::Tests::release_tests))]
+    pub(crate) fn release_refusal(self, task: TaskNo) -> Result<(), Refusal>
+        ensures { answer_of result ≡ refusal_of (release_tests self task.0) }
     {
         if !self.is_sound() {
-            return NOT_SOUND;
+            return Err(Refusal::NotSound);
         }
-        let state = self.state_at(task);
-        match state {
-            State::Free => NO_TASK,
-            State::Running => NOT_BLOCKED,
-            State::Blocked(event) => {
-                if self.reached(event) {
-                    DONE
-                } else {
-                    NOT_REACHED
-                }
-            }
+        match self.state_at(task) {
+            State::Free => Err(Refusal::NoTask),
+            State::Running => Err(Refusal::NotBlocked),
+            State::Blocked(event) if self.reached(event) => Ok(()),
+            State::Blocked(_) => Err(Refusal::NotReached),
         }
     }
 }

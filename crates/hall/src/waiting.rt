@@ -15,18 +15,17 @@ impl Table {
         ensures { result ≡ reached_of self event }
     {
         let place = column(event);
-        let mut k: usize = 0;
-        while k < 32 {
+        for k in 0..32 {
             let i = k * 16 + place;
             if impedes(self.members[i], self.phases[i], event) {
                 return false;
             }
-            k += 1;
         }
         true
     }
 
     // The blocked tasks. An array is handed on by a local: passed straight from its field it is not covered.
+    #[tactic(auto, using(crate::proofs::Looking::blocked_set))]
     pub fn blocked(self) -> u32
         ensures { BlockedSet self result }
     {

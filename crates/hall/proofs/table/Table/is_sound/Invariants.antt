@@ -1,19 +1,12 @@
 -- The tests of all entries before this one, and of all states before this one, each as one.
 use mathlib.Core.Path.{◌≡◌}
-use Prim.Native.Nat.{◌+◌, ◌*◌, ◌≤◌, ◌-◌}
+use Prim.Native.Nat.{◌+◌, ◌*◌}
 use Rattle.hall.specs.Every.{every}
 use Rattle.hall.proofs.Places.{entry_test, state_test}
 use Rattle.hall.proofs.table.Table.is_sound.Given as goal
 
 abbrev pub invariant-loop-p : goal.invariant-loop-p
-invariant-loop-p l = (l.p ≤ 16) × (l.entries ≡ every (entry_test l.self) (l.k * 16 + l.p))
-
-abbrev pub decreases-loop-p : goal.decreases-loop-p
-decreases-loop-p l = 16 - l.p
+invariant-loop-p l = l.entries ≡ every (entry_test l.self) (l.k * 16 + l.p)
 
 abbrev pub invariant-loop-k : goal.invariant-loop-k
-invariant-loop-k l =
-    (l.k ≤ 32) × (l.entries ≡ every (entry_test l.self) (l.k * 16)) × (l.states ≡ every (state_test l.self) l.k)
-
-abbrev pub decreases-loop-k : goal.decreases-loop-k
-decreases-loop-k l = 32 - l.k
+invariant-loop-k l = (l.entries ≡ every (entry_test l.self) (l.k * 16)) × (l.states ≡ every (state_test l.self) l.k)

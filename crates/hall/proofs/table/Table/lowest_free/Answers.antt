@@ -1,32 +1,26 @@
-use mathlib.Core.Path.{◌≡◌, sym, ◌∙◌, ap, refl}
-use native.Mathlib.Omega.{arith}
-use Rattle.hall.specs.Every.{lowest_from}
-use Rattle.states.specs.State.{is_free}
+use Rattle.std.proofs.Common.{rules, ◌≡◌, ap, Bool, true, false, ◌<◌, ◌≤◌, MatchOption}
+use Rattle.std.proofs.lemmas.Iterator.{IsFirst-from_position, YieldsList-from_slice}
+use borrow.Author.Tests.{tests}
+use Rattle.states.specs.State.{is_free, free_task}
+use Rattle.states.specs.declared.state.Task.{Task}
 use Rattle.hall.specs.Tests.{lowest_free}
-use Rattle.hall.proofs.Every.{lowest_here, lowest_on}
+use Rattle.hall.proofs.Lists.{lowest_first}
 use Rattle.hall.proofs.Places.{state_in}
-use borrow.Author.Rules.{rules}
+use Rattle.hall.proofs.table.Table.lowest_free.Goals.{After-position}
 use Rattle.hall.proofs.table.Table.lowest_free.Goals as goal
 
-pub loop-k-init : goal.loop-k-init
+abbrev free : Task → Bool
+free x = is_free x.state
+
+first : (c : After-position) → MatchOption c.position.result (32 ≤ lowest_free c.args.self) (λ k. (k < 32) × (k ≡ lowest_free c.args.self))
 unfolding lowest_free
-loop-k-init c = (search rules, refl)
-
-pub returns-then-is_free : goal.returns-then-is_free
-returns-then-is_free c =
-    sym
-    (c.loop-k.invariant.1
-    ∙ lowest_here _ _ 32 (search rules) (ap is_free (state_in _ _ (search rules)) ∙ sym c.is_free.ensures ∙ c.if-is_free.true))
-
-pub loop-k-preserved : goal.loop-k-preserved
-loop-k-preserved c = (
-  search rules,
-  c.loop-k.invariant.1
-      ∙ lowest_on _ _ 32 (search rules) (ap is_free (state_in _ _ (search rules)) ∙ sym c.is_free.ensures ∙ c.if-is_free.false),
-)
+first c =
+    lowest_first _ free c.args.self.tasks free_task 32 (search rules) (λ k h. ap is_free (state_in c.args.self k h)) _
+    (IsFirst-from_position _ _ _ (λ x. free x ≡ true) (λ x. free x ≡ false) c.position.ensures.ran (YieldsList-from_slice c.args.self.tasks cc)
+    (λ x q k. search (rules, tests)) (λ x q k. search (rules, tests)))
 
 pub returns : goal.returns
-unfolding lowest_from
-returns c =
-    let e : c.loop-k.k ≡ 32 = omega arith in
-    sym (rw e at c.loop-k.invariant.1)
+returns c = rw c.in_ok-k.was at (first (goal.at.returns c).After-position)
+
+pub returns-in_err-k : goal.returns-in_err-k
+returns-in_err-k c = rw c.from_residual.ensures (rw c.in_err-k.was at (first (goal.at.returns-in_err-k c).After-position))
