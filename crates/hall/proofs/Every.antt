@@ -2,11 +2,11 @@
 use mathlib.Core.Path.{◌≡◌, refl}
 use mathlib.Core.Bool.{Bool, true, false, ◌&&◌, and-false}
 use mathlib.Core.Logic.{⊎_elim}
-use Prim.Native.Nat.{ℕ, zero, suc, ◌+◌, ◌-◌, ◌<◌}
+use Prim.Native.Nat.{ℕ, zero, suc, ◌+◌, ◌<◌}
 use native.Mathlib.Nat.{eq-or-lt_of_le, le_of_suc-le-suc}
 use native.Mathlib.Numerals.{add-one}
 use native.Mathlib.Omega.{arith}
-use Rattle.hall.specs.Every.{every, lowest_from}
+use Rattle.hall.specs.Every.{every}
 use Rattle.states.proofs.Truth.{and_left, and_right}
 
 pub every_none : (test : ℕ → Bool) → every test 0 ≡ true
@@ -45,17 +45,3 @@ pub every_all : (test : ℕ → Bool) (n : ℕ) → ((k : ℕ) → k < n → tes
 unfolding every
 every_all test zero h = refl
 every_all test (suc n) h = simp (every_all test n (λ k l. h k (omega arith)), h n (omega arith))
-
--- a search that stands at k, of n numbers in all: found here, or further on
-pub lowest_here : (test : ℕ → Bool) (k n : ℕ) → k < n → test k ≡ true → lowest_from test k (n - k) ≡ k
-unfolding lowest_from
-lowest_here test k n h e =
-    let q : n - k ≡ suc (n - (k + 1)) = omega arith in
-    rw q (simp e)
-
-pub lowest_on : (test : ℕ → Bool) (k n : ℕ) → k < n → test k ≡ false
-    → lowest_from test k (n - k) ≡ lowest_from test (k + 1) (n - (k + 1))
-unfolding lowest_from
-lowest_on test k n h e =
-    let q : n - k ≡ suc (n - (k + 1)) = omega arith in
-    rw q (simp e)

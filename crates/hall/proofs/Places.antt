@@ -27,10 +27,6 @@ module _ (t : Table) where
   unfolding open_at
   open_in_lem p h = simp (lt-ltb p 16 h)
 
-  pub open_out : (p : ℕ) → 16 ≤ p → open_at t p ≡ false
-  unfolding open_at
-  open_out p h = simp (le-ltb p 16 h)
-
   pub member_in : (k p : ℕ) → k < 32 → p < 16 → member_at t k p ≡ get_or t.members (k * 16 + p) false
   unfolding member_at
   member_in k p h g = simp (lt-ltb k 32 h, lt-ltb p 16 g)

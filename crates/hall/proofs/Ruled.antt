@@ -1,25 +1,22 @@
 -- Laws of a call that is ruled by tests, and what a call that is not refused says of its numbers.
 use mathlib.Core.Path.{◌≡◌, refl, ap, sym, subst}
 use mathlib.Core.Logic.{◌↔◌}
-use mathlib.Core.Bool.{Bool, true, false, cond}
+use mathlib.Core.Bool.{Bool, true, cond}
 use mathlib.Core.List.{List, [], ◌∷◌}
 use Prim.Native.Nat.{ℕ, ◌<◌, ◌≤◌}
 use native.Mathlib.Omega.{arith}
 use lib.Dec.{ltb, eqb}
 use borrow.Author.Tests.{leb-true, ltb-true, ne_eqb}
-use Rattle.answers.specs.Answers.{wait_passed, now_blocked, none_free, not_sound, number_of}
+use Rattle.answers.specs.Answers.{none_free, not_sound, number_of}
 use Rattle.answers.specs.declared.Refusal.{Refusal}
 use Rattle.answers.proofs.Numbers.{number_high}
-use Rattle.states.specs.State.{event, largest_phase}
+use Rattle.states.specs.State.{largest_phase}
 use Rattle.states.specs.Tests.{Test, ◌else◌, refusal_of, caller_tests, member_tests, admit_tests, arrive_tests, wait_at_tests}
-use Rattle.states.specs.Waiting.{awaiting}
 use Rattle.states.proofs.Refusals.{refuses, Passed, passed, passed_none, Each, each_map, each_high, refusal_cases, first_of, caller_first}
-use Rattle.hall.specs.Calls.{called, refused, ruled, waits}
-use Rattle.hall.specs.Effects.{with_state}
+use Rattle.hall.specs.Calls.{refused, ruled}
 use Rattle.hall.specs.Parts.{sound_of}
 use Rattle.hall.specs.Table.{state_at, member_at, phase_at}
 use Rattle.hall.specs.Tests.{lowest_free, lowest_unopened, seen_at, open_task_tests, open_phaser_tests, close_phaser_tests, release_tests}
-use Rattle.hall.specs.Waiting.{reached_of}
 use Rattle.hall.specs.declared.calls.Called.{Called}
 use Rattle.hall.specs.declared.table.Table.{Table}
 use Rattle.hall.proofs.Places.{live_below, open_below}
@@ -66,16 +63,6 @@ pub open_phaser_first : (t : Table) (a : ℕ) → refusal_of (open_phaser_tests 
     ≡ first_of (refusal_of (caller_tests (sound_of t) (state_at t a))) (cond (ltb (lowest_unopened t) 16) 0 none_free)
 unfolding open_phaser_tests refusal_of
 open_phaser_first t a = caller_first (sound_of t) (state_at t a) (ltb (lowest_unopened t) 16 else none_free ∷ [])
-
--- ---- a wait that passes, and one that blocks
-module _ (t : Table) (a p n : ℕ) where
-  pub waits_passed : reached_of t (event p n) ≡ true → called wait_passed 0 t ≡ waits t a p n
-  unfolding waits
-  waits_passed e = simp e
-
-  pub waits_blocked : reached_of t (event p n) ≡ false → called now_blocked 0 (with_state t a (awaiting (event p n))) ≡ waits t a p n
-  unfolding waits
-  waits_blocked e = simp e
 
 -- ---- the numbers of a call that is not refused are in range
 pub caller_in_range : (t : Table) (a : ℕ) → refusal_of (caller_tests (sound_of t) (state_at t a)) ≡ 0 → a < 32
