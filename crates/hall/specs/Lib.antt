@@ -7,5 +7,6 @@ pub mod Parts
 pub mod Tests
 pub mod Effects
 pub mod Calls
+pub mod Kind
 pub mod Rules
 pub mod Additions

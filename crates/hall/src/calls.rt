@@ -4,17 +4,16 @@ ghost use Rattle.answers.specs.Answers.{number_of};
 ghost use Rattle.hall.specs.Table.{entry_of};
 ghost use Rattle.hall.specs.Effects.{with_state, with_entry, with_open, without_entries};
 ghost use Rattle.hall.specs.Calls.{called, refused, open_task_of, end_task_of, open_phaser_of, close_phaser_of, admit_of};
+ghost use Rattle.hall.specs.Kind.{kind_number};
 ghost use Rattle.hall.specs.Calls.{leave_of, arrive_of, waits, wait_of, wait_at_of, release_of, call_of};
 
+use crate::kind::Kind;
 use crate::table::Table;
 use answers::{DONE, NOW_BLOCKED, Refusal, WAIT_PASSED};
 use states::state::{Event, Phase, PhaserNo, State, Task, TaskNo};
 use states::tests::{
     admit_refusal, arrive_refusal, caller_refusal, member_refusal, wait_at_refusal,
 };
-
-// "Kinds of call run from 0 to 9": so many there are.
-pub const KINDS: u64 = 10;
 
 // A call by the number of its kind, with numbers of any size. `other` is the target of an admit, or the stated phase of a wait.
 #[derive(Clone, Copy)]
@@ -236,25 +235,34 @@ impl Table {
     }
 
     // "any other kind is 42, tested before all else"
-    #[tactic(auto, unfolding(crate::specs::Calls::call_of))]
+    #[tactic(auto, using(crate::proofs::ByEffect::no_kind_refused))]
     pub fn call(self, call: Call) -> Called
+        ensures { result ≡ call_of self call }
+    {
+        match Kind::try_from(call.kind) {
+            Ok(kind) => self.call_of(kind, call),
+            Err(refusal) => self.refused(refusal),
+        }
+    }
+
+    #[tactic(auto, unfolding(crate::specs::Calls::call_of))]
+    fn call_of(self, kind: Kind, call: Call) -> Called
+        requires { kind_number kind ≡ call.kind }
         ensures { result ≡ call_of self call }
     {
         let task = TaskNo(call.task);
         let phaser = PhaserNo(call.phaser);
-        let other = call.other;
-        match call.kind {
-            0 => self.open_task(),
-            1 => self.end_task(task),
-            2 => self.open_phaser(task),
-            3 => self.close_phaser(phaser),
-            4 => self.admit(task, phaser, TaskNo(other)),
-            5 => self.leave(task, phaser),
-            6 => self.arrive(task, phaser),
-            7 => self.wait(task, phaser),
-            8 => self.wait_at(task, phaser, other),
-            9 => self.release(task),
-            _ => self.refused(Refusal::NoKind),
+        match kind {
+            Kind::OpenTask => self.open_task(),
+            Kind::EndTask => self.end_task(task),
+            Kind::OpenPhaser => self.open_phaser(task),
+            Kind::ClosePhaser => self.close_phaser(phaser),
+            Kind::Admit => self.admit(task, phaser, TaskNo(call.other)),
+            Kind::Leave => self.leave(task, phaser),
+            Kind::Arrive => self.arrive(task, phaser),
+            Kind::Wait => self.wait(task, phaser),
+            Kind::WaitAt => self.wait_at(task, phaser, call.other),
+            Kind::Release => self.release(task),
         }
     }
 }
