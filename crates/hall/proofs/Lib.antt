@@ -16,3 +16,4 @@ pub mod Answered
 pub mod Frame
 pub mod Maps
 pub mod Figure3
+pub mod Numbered

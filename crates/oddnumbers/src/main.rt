@@ -1,7 +1,8 @@
 #![tactic(auto)]
 
 // Calls with odd numbers in each place: a line for each, `kind task phaser other answer value`.
-use hall::calls::{Call, Called, KINDS};
+use hall::calls::{Call, Called};
+use hall::kind::KINDS;
 use hall::table::Table;
 use states::state::{PhaserNo, TaskNo};
 use std::io;

@@ -10,7 +10,8 @@ ghost use Rattle.sheet_call.specs.Call.{sheet_call_of};
 ghost use Rattle.sheet_call.specs.Parts.{handed};
 
 use answers::Refusal;
-use hall::calls::{Call, KINDS};
+use hall::calls::Call;
+use hall::kind::Kind;
 use hall::table::Table;
 use sheet::reader::read;
 use writer::next::{SheetCalled, call_and_write};
@@ -29,9 +30,7 @@ fn fresh_sheet() -> [u8; 3]
 fn call_on(sheet: &[u8], call: Call, next: &mut [u8]) -> Result<SheetCalled, Refusal>
     ensures { handed result next.new ≡ sheet_call_of sheet.now call next.old }
 {
-    if call.kind >= KINDS {
-        return Err(Refusal::NoKind);
-    }
+    Kind::try_from(call.kind)?;
     let mut table = Table::fresh();
     read(sheet, &mut table)?;
     Ok(call_and_write(table, call, next))

@@ -1,5 +1,6 @@
 // Tables made by hand, one field apart from a sound one: a line for each, `table`, what the judge answers and what the calls answer.
-use hall::calls::{Call, KINDS};
+use hall::calls::Call;
+use hall::kind::KINDS;
 use hall::table::Table;
 use judge::judge::{LARGEST_ROUTE, judge};
 use states::state::{Event, Phase, PhaserNo, State, Task};
