@@ -1,53 +1,14 @@
--- Loops over a set that take the lowest task out of what is left, and loops that put a set together: what each knows, its start, its steps, its end.
+-- A set put together from the bottom: what is known, the start, a step.
 use mathlib.Core.Path.{◌≡◌, sym, subst}
-use mathlib.Core.Bool.{Bool, true}
-use mathlib.Core.Logic.{◌↔◌, ◌⊎◌, inl, inr, ⊎_elim}
-use Prim.Native.Nat.{ℕ, ◌+◌, ◌^◌, ◌<◌}
+use mathlib.Core.Logic.{◌↔◌, ◌⊎◌, inl, inr}
+use Prim.Native.Nat.{ℕ, ◌+◌, ◌<◌}
 use native.Mathlib.Decide.{ℕ_discrete}
 use native.Mathlib.Omega.{arith}
-use Rattle.sets.specs.Set.{Has, LowestOf}
-use Rattle.sets.proofs.Members.{Kept, Put, Taken, has_lt, none_has, taken_lt, taken_out}
-
--- ---- the lowest of what is left: it is there, it is a task's number, and without it less is left
-module _ {m t : ℕ} (fits : m < 2 ^ 32) (some : m ≡ 0 → ⊥) (low : LowestOf m t) where
-  pub lowest_has : Has m t
-  lowest_has = (low.some (omega arith)).holds
-
-  pub lowest_lt : t < 32
-  lowest_lt = has_lt 32 m t fits lowest_has
-
-  pub lowest_less : (r : ℕ) → r < 2 ^ 32 → Taken m t r → r < m
-  lowest_less r f p = taken_lt 32 m t r f lowest_has p
+use Rattle.sets.specs.Set.{Has}
+use Rattle.sets.proofs.Members.{Put, none_has}
 
 module _ (P : ℕ → Type 0) where
-  -- ---- keep those with P: `kept` has those of `among` with P, and of the rest only what is `left` to look at
-  pub record Sifted (among kept left : ℕ) : Type 0 where
-    pub inside : (k : ℕ) → Has kept k → Has among k
-    pub keeps : (k : ℕ) → Has among k → P k → Has kept k
-    pub seen : (k : ℕ) → Has kept k → (Has left k → ⊥) → P k
-
-  pub sift_start : (among : ℕ) → Sifted among among among
-  sift_start among = record { inside = λ k h. h; keeps = λ k h p. h; seen = λ k h n. absurd (n h) }
-
-  -- one task looked at: it stays exactly where it has P, as a test says
-  pub sift_if : {among kept left t rest r : ℕ} {b : Bool} → Sifted among kept left → Taken left t rest → ((b ≡ true) ↔ P t)
-      → Kept kept t b r → Sifted among r rest
-  sift_if {among} {kept} {left} {t} {rest} {r} {b} g taken iff out = record {
-    inside = λ k h. g.inside k ((out k).0 h).0;
-    keeps = λ k h p. (out k).1 (g.keeps k h p, λ e. iff.1 (subst P e p));
-    seen = λ k h n.
-        ⊎_elim (λ e. subst P (sym e) (iff.0 (((out k).0 h).1 e))) (g.seen k ((out k).0 h).0) (taken_out left t rest k taken n);
-  }
-
-  -- what is left may be cut down to what is kept: who was dropped needs no look
-  pub sift_kept : {among kept left both : ℕ} → Sifted among kept left → ((k : ℕ) → Has both k ↔ (Has left k × Has kept k))
-      → Sifted among kept both
-  sift_kept g cut = record { inside = g.inside; keeps = g.keeps; seen = λ k h n. g.seen k h (λ l. n ((cut k).1 (l, h))) }
-
-  pub sift_done : (among kept : ℕ) → Sifted among kept 0 → (k : ℕ) → Has kept k ↔ (Has among k × P k)
-  sift_done among kept g k = (λ h. (g.inside k h, g.seen k h (none_has k)), λ h. g.keeps k h.0 h.1)
-
-  -- ---- put a set together from the bottom: `m` has those below n with P
+  -- `m` has those below n with P
   pub record Built (m n : ℕ) : Type 0 where
     pub iff : (k : ℕ) → Has m k ↔ ((k < n) × P k)
 

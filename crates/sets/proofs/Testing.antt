@@ -69,7 +69,7 @@ module _ (Said : ℕ → Bool → Type 0) where
   pub seek_none : {set left : ℕ} → left ≡ 0 → Seeking set left → First (Has set) Said None
   seek_none z g = λ k h. g.said k h (rw z (none_has k))
 
-never : false ≡ true → ⊥
+pub never : false ≡ true → ⊥
 never e = let z : ◌≡◌ {A = ℕ} 1 0 = ap (λ (c : Bool). cond c 0 1) e in omega arith
 
 -- ---- what a test found, where each of its answers is that of P

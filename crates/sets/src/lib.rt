@@ -91,13 +91,6 @@ pub fn rest(set: u32) -> u32
     take(set, lowest(set))
 }
 
-// What is left to look at after the lowest task: nothing, once that one is found to be the one.
-pub fn until(left: u32, found: bool) -> u32
-    ensures { (t : ℕ) → LowestOf left t → (k : ℕ) → Has result k ↔ ((found ≡ false) × Has left k × (k ≡ t → ⊥)) }
-{
-    if found { 0 } else { rest(left) }
-}
-
 // The tasks of a set, lowest first.
 #[derive(Clone, Copy)]
 pub struct Rising {
