@@ -1,9 +1,16 @@
 -- Document 01: "Reading a number answers either its value and the next place, or its refusal." So does the reading of each part of a sheet.
-use Rattle.std.specs.Prelude.{ℕ, zero, suc}
+use Rattle.std.specs.Prelude.{ℕ, zero, suc, Result, Ok, Err}
+use Rattle.answers.specs.Answers.{number_of}
+use Rattle.answers.specs.declared.Refusal.{Refusal}
 
 pub data Got (A : Type 0) : Type 0 where
   value : A → ℕ → Got A
   refused : ℕ → Got A
+
+-- the two cases of the code's result, a refusal by its number
+abbrev pub got : {A : Type 0} → Result (A × ℕ) Refusal → Got A
+got (Ok read) = value read.0 read.1
+got (Err r) = refused (number_of r)
 
 -- go on with what was read, at the next place, or hand its refusal on: "The first fault in byte order decides"
 abbrev pub onward : {A B : Type 0} → Got A → (A → ℕ → Got B) → Got B

@@ -1,4 +1,3 @@
 pub mod Figures
 pub mod Got
 pub mod Number
-pub mod Parts

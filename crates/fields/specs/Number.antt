@@ -1,15 +1,15 @@
 -- Document 01, 'The hall sheet': "A number is groups of seven bits, low group first; the top bit of a byte says that another group follows."
 use Rattle.std.specs.Prelude.{cond, List, [], ◌∷◌, ℕ, zero, suc, ◌+◌, ◌-◌, ◌*◌, ◌/◌, ◌%◌, ltb, leb, eqb, length, get_or}
-use Rattle.answers.specs.Answers.{ends_inside, needless_group, too_large, not_rising}
+use Rattle.answers.specs.Answers.{number_of, ends_inside, needless_group, too_large, not_rising}
 use Rattle.fields.specs.declared.number.Number.{Number}
 use Rattle.fields.specs.declared.number.Number.TheVariants.{Value, Refused}
 use Rattle.fields.specs.Figures.{further}
 use Rattle.fields.specs.Got.{Got, value, refused, onward}
 
--- "Reading a number answers either its value and the next place, or its refusal": the two cases of the code's enum
+-- "Reading a number answers either its value and the next place, or its refusal": the two cases of the code's enum, a refusal by its number
 abbrev pub outcome : Number → Got ℕ
 outcome (Value v next) = value v next
-outcome (Refused n) = refused n
+outcome (Refused r) = refused (number_of r)
 
 -- a group, and the number of those that follow it: "31 if there is more than one group and the last is 0", for then that number is 0
 abbrev pub carried : ℕ → Got ℕ → Got ℕ

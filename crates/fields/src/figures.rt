@@ -7,7 +7,7 @@ pub const LONGEST_SHEET: usize = 2_291;
 // "So reading 2,292 settles any input."
 pub const SETTLING_BYTES: usize = 2_292;
 // "At most three groups": so many may follow the first.
-pub const FURTHER: u64 = 2;
+pub const FURTHER: usize = 2;
 
 // No promise of the library names the first two, so these hold them to their definitions.
 fn longest_sheet() -> usize
