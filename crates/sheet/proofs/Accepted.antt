@@ -20,12 +20,11 @@ use Rattle.hall.proofs.Written.{entry_at as entry_in, same_member, same_phase, r
 use Rattle.states.specs.Parts.{state_sound}
 use Rattle.hall.proofs.Soundness.{get_d_all}
 use Rattle.sheet.specs.declared.entry.Entry.{Entry}
-use Rattle.sheet.specs.declared.entry.Membership.{Membership}
 use Rattle.sheet.specs.declared.head.Head.{Head}
 use Rattle.fields.specs.Number.{number_bytes}
 use Rattle.fields.specs.Got.{Rising, rising, each}
 use Rattle.sheet.specs.Head.{open_step, opens_at, count_at, lists_at, head_at}
-use Rattle.sheet.specs.Entry.{phase_on, event_at, blocked_at, state_on, entry_of, count_on, entry_on, entry_at, membership_of, membership_at}
+use Rattle.sheet.specs.Entry.{phase_on, event_at, blocked_at, state_on, entry_of, count_on, entry_on, entry_at}
 use Rattle.sheet.specs.Reader.{member_step, members_at, task_step, tasks_at, entries_at, table_at}
 use Rattle.sheet.specs.Written.{listed, state_bytes, member_bytes, task_bytes, live_at, sheet_of}
 use Rattle.sheet.proofs.Same.{Ok, fine, none, same_onward, same_times, same_if}
@@ -53,11 +52,6 @@ module _ (s : List ℕ) (eight : Bytes s) where
         bytes = f.bytes ∙ rw (e.bytes, append_assoc);
       })))
       (λ o. none tt))
-
-  membership_ok : (t : Table) (floor at : ℕ)
-      → Ok (λ (m : Membership). PhaseRead t floor at m.phaser.0 m.phase.0) (membership_at s t.opened floor at)
-  unfolding membership_at
-  membership_ok t floor at = same_onward (event_ok t floor at) (λ e next r. fine {a = membership_of e} r)
 
   record StateRead (t : Table) (at : ℕ) (x : State) (next : ℕ) : Type 0 where
     pub alive : is_live x ≡ true
@@ -106,7 +100,7 @@ module _ (s : List ℕ) (eight : Bytes s) where
     member_ok : (w : List ℕ) (n left : ℕ) (r : Rising Table) (at : ℕ) → Joining w n (suc left) r at → Ok (Joining w n left) (member_step s t.opened k r at)
     unfolding member_step
     member_ok w n left r at j =
-        same_onward (membership_ok t r.floor at) (λ e next v.
+        same_onward (event_ok t r.floor at) (λ e next v.
         let p = e.phaser.0 in
         let m = e.phase.0 in
         let u = r.sofar in

@@ -1,17 +1,18 @@
 -- A number that was read is at most its field's largest value, and at least its list's floor.
-use Prim.Native.Nat.{ℕ, ◌+◌, ◌≤◌, ◌<◌}
-use mathlib.Core.Path.{◌≡◌, refl}
+use Prim.Native.Nat.{ℕ, ◌≤◌}
+use mathlib.Core.Path.{◌≡◌, refl, sym}
 use mathlib.Core.Bool.{Bool, cond, true, false}
 use mathlib.Core.List.{List}
 use native.Mathlib.Omega.{arith}
 use lib.Dec.{leb, ltb}
+use lib.ListN.{get_or}
 use borrow.Author.Tests.{leb-true, ltb-false}
-use Rattle.hall.specs.Effects.{with_state}
-use Rattle.hall.specs.declared.table.Table.{Table}
-use Rattle.fields.specs.Got.{Got, value, refused, Rising, rising, each}
+use Rattle.states.specs.State.{largest_phase, event}
+use Rattle.states.specs.declared.state.Event.{Event}
+use Rattle.fields.specs.Got.{Got, value, refused}
 use Rattle.fields.specs.Number.{plain_at, number_at, rising_at}
-use Rattle.sheet.specs.Entry.{state_on, entry_of, count_on, entry_on, entry_at}
-use Rattle.sheet.specs.Reader.{member_step, members_at, task_step}
+use Rattle.sheet.specs.declared.entry.Entry.{Entry}
+use Rattle.sheet.specs.Entry.{phase_on, event_at, state_on, entry_of, count_on, entry_on, entry_at}
 use Rattle.sheet.proofs.Onward.{came}
 
 -- where a test let something through, it held
@@ -23,32 +24,36 @@ kept : {A : Type 0} {b : A} {next : ℕ} (test : Bool) (g : Got A) (n : ℕ) →
 kept true g n e = absurd (let z : ◌≡◌ {A = ℕ} 0 1 = cc in omega arith)
 kept false g n e = (refl, e)
 
-pub number_bound : (s : List ℕ) (m at : ℕ) {v next : ℕ} → number_at s m at ≡ value v next → v ≤ m
+pub number_bound : (s : List ℕ) (m at : ℕ) {v next : ℕ} → value v next ≡ number_at s m at → v ≤ m
 unfolding number_at
 number_bound s m at {v} e =
-    let c = came (plain_at s at) _ e in
+    let c = came (plain_at s at) _ (sym e) in
     let p = passed (leb c.it m) _ _ c.onto in
     let z : c.it ≡ v = cc in
     rw (← z) (leb-true c.it m p.0)
 
-pub rising_within : (s : List ℕ) (m floor at : ℕ) {v next : ℕ} → rising_at s m floor at ≡ value v next → (floor ≤ v) × (v ≤ m)
+pub rising_within : (s : List ℕ) (m floor at : ℕ) {v next : ℕ} → value v next ≡ rising_at s m floor at → (floor ≤ v) × (v ≤ m)
 unfolding rising_at
 rising_within s m floor at {v} e =
-    let c = came (number_at s m at) _ e in
+    let c = came (number_at s m at) _ (sym e) in
     let k = kept (ltb c.it floor) _ _ c.onto in
     let z : c.it ≡ v = cc in
-    rw (← z) (ltb-false c.it floor k.0, number_bound s m at c.from)
+    rw (← z) (ltb-false c.it floor k.0, number_bound s m at (sym c.from))
 
--- each task's number is over that of the task before it
-pub task_rises : (s : List ℕ) (opened : List Bool) (r r' : Rising Table) (at : ℕ) {next : ℕ} → task_step s opened r at ≡ value r' next → r.floor < r'.floor
-unfolding task_step entry_at entry_on count_on members_at
-task_rises s opened r r' at h =
-    let step = came (entry_at s opened r.floor at) _ h in
-    let number = came (rising_at s 31 r.floor at) _ step.from in
+pub event_within : (s : List ℕ) (opened : List Bool) (floor at : ℕ) {e : Event} {next : ℕ} → value e next ≡ event_at s opened floor at → e.phaser.0 ≤ 15
+unfolding event_at phase_on
+event_within s opened floor at {e} h =
+    let c = came (rising_at s 15 floor at) _ (sym h) in
+    let p = passed (get_or opened c.it false) _ _ c.onto in
+    let n = came (number_at s largest_phase c.at) _ p.1 in
+    let z : event c.it n.it ≡ e = cc in
+    rw (← z) (rising_within s 15 floor at (sym c.from)).1
+
+pub entry_within : (s : List ℕ) (opened : List Bool) (floor at : ℕ) {e : Entry} {next : ℕ} → value e next ≡ entry_at s opened floor at → e.number.0 ≤ 31
+unfolding entry_at entry_on count_on
+entry_within s opened floor at {e} h =
+    let number = came (rising_at s 31 floor at) _ (sym h) in
     let state = came (state_on s opened number.at) _ number.onto in
     let members = came (number_at s 16 state.at) _ state.onto in
-    let k = step.it.number.0 in
-    let all = came (each (member_step s opened k) step.it.count (with_state r.sofar k step.it.state) step.at) _ step.onto in
-    let z : entry_of number.it state.it members.it ≡ step.it = cc in
-    let y : rising (k + 1) all.it ≡ r' = cc in
-    rw (← y, ← z) (omega (arith, (rising_within s 31 r.floor at number.from).0))
+    let z : entry_of number.it state.it members.it ≡ e = cc in
+    rw (← z) (rising_within s 31 floor at (sym number.from)).1

@@ -12,7 +12,7 @@ use Rattle.hall.specs.declared.table.Table.{Table}
 use Rattle.fields.specs.Got.{refused, each}
 use Rattle.fields.specs.Number.{plain_at, number_at, rising_at, number_bytes}
 use Rattle.sheet.specs.Head.{open_step, opens_at, count_at, lists_at, head_at}
-use Rattle.sheet.specs.Entry.{phase_on, event_at, blocked_at, state_on, count_on, entry_on, entry_at, membership_at}
+use Rattle.sheet.specs.Entry.{phase_on, event_at, blocked_at, state_on, count_on, entry_on, entry_at}
 use Rattle.sheet.specs.Reader.{member_step, members_at, task_step, tasks_at, entries_at, table_at, sheet_at}
 use Rattle.sheet.specs.Written.{listed, sheet_of}
 use Rattle.sheet.proofs.Fewest.{fewest}
@@ -50,6 +50,6 @@ SaysP4 t =
 
 pub p4_read : ((sheet_at p4).answer ≡ 0) × SaysP4 (sheet_at p4).table × (sheet_of (sheet_at p4).table ≡ p4)
 unfolding sheet_at table_at head_at lists_at count_at opens_at open_step each entries_at tasks_at task_step entry_at entry_on state_on blocked_at event_at
-    phase_on count_on members_at member_step membership_at plain_at number_at rising_at with_state with_entry sheet_of listed number_bytes open_at state_at
+    phase_on count_on members_at member_step plain_at number_at rising_at with_state with_entry sheet_of listed number_bytes open_at state_at
     member_at phase_at
 p4_read = (refl, (refl, refl, refl, refl, refl, refl, refl, refl, refl, refl), refl)

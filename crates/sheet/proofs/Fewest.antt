@@ -17,7 +17,7 @@ use Rattle.fields.specs.Got.{Got, Rising, rising, each}
 use Rattle.fields.specs.Figures.{further}
 use Rattle.fields.specs.Number.{groups_at, plain_at, number_at, rising_at}
 use Rattle.sheet.specs.Head.{open_step, opens_at, count_at, lists_at, head_at}
-use Rattle.sheet.specs.Entry.{phase_on, event_at, blocked_at, state_on, count_on, entry_on, entry_at, membership_at}
+use Rattle.sheet.specs.Entry.{phase_on, event_at, blocked_at, state_on, count_on, entry_on, entry_at}
 use Rattle.sheet.specs.Reader.{member_step, members_at, task_step, no_tasks, tasks_at, entries_at, table_at}
 use Rattle.sheet.proofs.Same.{Agree, fine, none, same_onward, same_times, same_if}
 
@@ -70,10 +70,6 @@ module _ (s : List ℕ) where
       (λ o. same_onward (number largest_phase second (omega (arith, e.0))) (λ v next f. fine (omega (arith, e.0, f.0))))
       (λ o. none {n = not_open} (omega (arith, e.0, e.1))))
 
-  membership : (opened : List Bool) (floor at : ℕ) → 5 ≤ at → Enough (Past 5) (membership_at s opened floor at)
-  unfolding membership_at
-  membership opened floor at h = same_onward (event opened floor at h) (λ e next f. fine f)
-
   state : (opened : List Bool) (at : ℕ) → 4 ≤ at → Enough (Past 5) (state_on s opened at)
   unfolding state_on blocked_at
   state opened at h =
@@ -97,7 +93,7 @@ module _ (s : List ℕ) where
       same_onward {P = Past 5}
       (same_onward
       (same_times (λ j. Past 5) (member_step s opened k) (member_step s opened k)
-      (λ j r mid l. same_onward (membership opened r.floor mid l) (λ m next f. fine f))
+      (λ j r mid l. same_onward (event opened r.floor mid l) (λ m next f. fine f))
       e.count (rising 0 (with_state t k e.state)) at h)
       (λ r next l. fine l))
       (λ u next l. fine (omega arith))

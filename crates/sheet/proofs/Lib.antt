@@ -13,5 +13,4 @@ pub mod Longest
 pub mod Bytes
 pub mod Theorems
 pub mod Examples
-mod Wiped
 mod Marks

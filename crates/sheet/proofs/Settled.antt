@@ -17,7 +17,7 @@ use Rattle.fields.specs.Got.{value, rising, each}
 use Rattle.fields.specs.Figures.{longest_sheet, settling_bytes, further}
 use Rattle.fields.specs.Number.{groups_at, plain_at, number_at, rising_at}
 use Rattle.sheet.specs.Head.{open_step, opens_at, count_at, lists_at, head_at}
-use Rattle.sheet.specs.Entry.{phase_on, event_at, blocked_at, state_on, entry_of, count_on, entry_on, entry_at, membership_at}
+use Rattle.sheet.specs.Entry.{phase_on, event_at, blocked_at, state_on, entry_of, count_on, entry_on, entry_at}
 use Rattle.sheet.specs.Reader.{member_step, members_at, task_step, no_tasks, tasks_at, entries_at, table_at}
 use Rattle.sheet.proofs.Same.{Same, fine, none, same_onward, same_times, same_if, same_equal, same_holds}
 use Rattle.sheet.proofs.Numbers.{Bytes, any_number, Read, plain_ok, number_ok, rising_ok, one_byte}
@@ -74,11 +74,6 @@ module _ (s s' : List ℕ) (eight : Bytes s) (n : ℕ) (same : (i : ℕ) → i <
       (λ o. same_onward (number largest_phase second (omega arith)) (λ v next f. fine (omega (arith, f.place, f.short))))
       (λ o. none tt))
 
-  membership : (c : ℕ) (opened : List Bool) (floor at : ℕ) → at + (longest_event + c) ≤ n
-      → Same (Left c) (membership_at s opened floor at) (membership_at s' opened floor at)
-  unfolding membership_at
-  membership c opened floor at h = same_onward (event c opened floor at h) (λ e next l. fine l)
-
   state : (c : ℕ) (opened : List Bool) (at : ℕ) → at + (1 + longest_event + c) ≤ n → Same (Left c) (state_on s opened at) (state_on s' opened at)
   unfolding state_on blocked_at
   state c opened at h =
@@ -105,7 +100,7 @@ module _ (s s' : List ℕ) (eight : Bytes s) (n : ℕ) (same : (i : ℕ) → i <
       same_onward {P = Left c}
       (same_onward
       (same_times (λ j. Left (j * longest_event + c)) (member_step s opened k) (member_step s' opened k)
-      (λ j r mid l. same_onward (membership (j * longest_event + c) opened r.floor mid (omega arith)) (λ m next f. fine f))
+      (λ j r mid l. same_onward (event (j * longest_event + c) opened r.floor mid (omega arith)) (λ m next f. fine f))
       e.count (rising 0 (with_state t k e.state)) at h)
       (λ r next l. fine (omega arith)))
       (λ u next l. fine l)

@@ -8,7 +8,8 @@ use native.Mathlib.Omega.{arith}
 use lib.Dec.{T, eqb, leb}
 use lib.ListN.{length, take}
 use borrow.Author.Tests.{eqb-true, leb-true, ne_eqb}
-use Rattle.answers.specs.Answers.{among}
+use Rattle.answers.specs.Answers.{among, number_of}
+use Rattle.answers.proofs.Numbers.{number_one}
 use Rattle.states.proofs.Truth.{and_left, and_right}
 use Rattle.hall.specs.Table.{Shaped, fresh_table}
 use Rattle.hall.specs.Sound.{Sound}
@@ -127,4 +128,4 @@ pub one_number : (a b : Number) → outcome a ≡ outcome b → a ≡ b
 one_number (Value v next) (Value w after) e = let x : v ≡ w = cc in let y : next ≡ after = cc in rw (x, y)
 one_number (Value v next) (Refused n) e = absurd (let z : ◌≡◌ {A = ℕ} 0 1 = cc in omega arith)
 one_number (Refused n) (Value v next) e = absurd (let z : ◌≡◌ {A = ℕ} 0 1 = cc in omega arith)
-one_number (Refused n) (Refused m) e = let x : n ≡ m = cc in rw x
+one_number (Refused n) (Refused m) e = let x : number_of n ≡ number_of m = cc in rw (number_one n m x)

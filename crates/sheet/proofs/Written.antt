@@ -20,7 +20,7 @@ use Rattle.hall.proofs.Soundness.{get_d_all}
 use Rattle.fields.specs.Got.{Got, value, refused, onward, times, Rising, rising, each}
 use Rattle.fields.specs.Number.{number_at, number_bytes}
 use Rattle.sheet.specs.Head.{open_step, opens_at, count_at, lists_at, head_at}
-use Rattle.sheet.specs.Entry.{phase_on, event_at, blocked_at, state_on, count_on, entry_on, entry_at, membership_at}
+use Rattle.sheet.specs.Entry.{phase_on, event_at, blocked_at, state_on, count_on, entry_on, entry_at}
 use Rattle.sheet.specs.Reader.{member_step, members_at, task_step, no_tasks, tasks_at, entries_at, table_at}
 use Rattle.sheet.specs.Written.{count, gather, listed, state_bytes, member_bytes, task_bytes, live_at, sheet_of}
 use Rattle.sheet.proofs.Numbers.{any_number, read_plain, read_number, read_rising}
@@ -195,7 +195,7 @@ module _ (t : Table) (h : Sound t) (sh : Shaped t) (s : List ℕ) where
 
     read_member : (p at floor : ℕ) (rest : List ℕ) → p < 16 → member_at t k p ≡ true → floor ≤ p → drop at s ≡ member_bytes t k p ++ rest
         → member_step s t.opened k (rising floor (up_to (suc k) k p)) at ≡ value (rising (p + 1) (up_to (suc k) k (suc p))) (at + length (member_bytes t k p))
-    unfolding member_step membership_at
+    unfolding member_step
     read_member p at floor rest l m f e =
         rw (read_event p (phase_at t k p) floor at rest (h.open_member k p m) (h.kept k p) f e, joined p l m)
 

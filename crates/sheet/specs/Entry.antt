@@ -5,7 +5,6 @@ use Rattle.states.specs.declared.state.Event.{Event}
 use Rattle.states.specs.declared.state.State.{State}
 use Rattle.states.specs.declared.state.State.TheVariants.{Running, Blocked}
 use Rattle.sheet.specs.declared.entry.Entry.{Entry}
-use Rattle.sheet.specs.declared.entry.Membership.{Membership}
 use Rattle.answers.specs.Answers.{unknown, not_open}
 use Rattle.fields.specs.Got.{Got, value, refused, onward}
 use Rattle.fields.specs.Number.{plain_at, number_at, rising_at}
@@ -41,8 +40,5 @@ unfoldable pub entry_at : List ℕ → List Bool → ℕ → ℕ → Got Entry
 entry_at s opened floor at = onward (rising_at s 31 floor at) (entry_on s opened)
 
 -- "and each as phaser and phase"
-abbrev pub membership_of : Event → Membership
-membership_of e = record { phaser = e.phaser; phase = e.phase }
-
-unfoldable pub membership_at : List ℕ → List Bool → ℕ → ℕ → Got Membership
-membership_at s opened floor at = onward (event_at s opened floor at) (λ e next. value (membership_of e) next)
+abbrev pub membership_at : List ℕ → List Bool → ℕ → ℕ → Got Event
+membership_at s opened floor at = event_at s opened floor at

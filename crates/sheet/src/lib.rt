@@ -4,3 +4,4 @@
 mod entry;
 mod head;
 pub mod reader;
+mod refusal;
