@@ -4,30 +4,17 @@ ghost use Rattle.answers.specs.Answers.{answer_of};
 ghost use Rattle.fields.specs.Got.{each};
 ghost use Rattle.hall.specs.Parts.{BlockedSet};
 ghost use Rattle.sheet.specs.Parts.{laid, unless_refused};
-ghost use Rattle.sheet.specs.Reader.{no_tasks, member_step, hands, sheet_at};
+ghost use Rattle.sheet.specs.Reader.{member_step, hands, sheet_at};
 
 use crate::entry::{entry_at, event_at};
 use crate::head::head_at;
 use answers::Refusal;
 use fields::place::ended;
 use hall::table::Table;
-use states::state::{Phase, State, Task};
-
-// These phasers are open, and there is no task.
-fn no_tasks(opened: [bool; 16]) -> Table
-    ensures { result ≡ no_tasks opened }
-{
-    let free = Task { state: State::Free };
-    Table {
-        tasks: [free; 32],
-        opened,
-        phases: [Phase(0); 512],
-        members: [false; 512],
-    }
-}
+use states::state::Task;
 
 // So many memberships of a task, laid into the table, and the next place.
-fn members(
+fn lay_members(
     sheet: &[u8],
     opened: &[bool; 16],
     task: usize,
@@ -59,20 +46,18 @@ fn lay(sheet: &[u8], table: &mut Table) -> Result<u32, Refusal>
     ensures blocked { IfOk result (λ blocked. BlockedSet table.new blocked) }
 {
     let (head, first) = head_at(sheet)?;
-    let opened = head.opened;
-    *table = no_tasks(opened);
+    *table = Table::fresh();
+    table.opened = head.opened;
     let mut blocked = 0;
     let mut floor = 0;
     let mut at = first;
     for _ in 0..head.count {
-        let (entry, next) = entry_at(sheet, &opened, floor, at)?;
-        let number = entry.number.0;
-        let k = number as usize;
-        let state = entry.state;
-        blocked = sets::marked(blocked, k, state.is_blocked());
-        table.tasks[k] = Task { state };
-        at = members(sheet, &opened, k, entry.count, next, table)?;
-        floor = number + 1;
+        let (entry, next) = entry_at(sheet, &head.opened, floor, at)?;
+        let k = entry.number.0 as usize;
+        blocked = sets::marked(blocked, k, entry.state.is_blocked());
+        table.tasks[k] = Task { state: entry.state };
+        at = lay_members(sheet, &head.opened, k, entry.count, next, table)?;
+        floor = entry.number.0 + 1;
     }
     ended(sheet, at)?;
     Ok(blocked)

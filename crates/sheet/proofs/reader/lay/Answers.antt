@@ -5,6 +5,7 @@ use lib.ListN.{length}
 use Rattle.std.proofs.Common.{rules}
 use Rattle.std.proofs.lemmas.Result.{err_from_is_err_and}
 use Rattle.hall.specs.Effects.{with_state}
+use Rattle.hall.specs.Table.{fresh_table}
 use Rattle.sheet.specs.Reader.{task_step}
 use Rattle.sheet.proofs.Marks.{nobody_blocked, mark_one}
 use Rattle.sheet.proofs.Onward.{going_start, going_turn, going_refused, going_end}
@@ -18,8 +19,8 @@ returns-in_err-head-clause-read c =
     rw (p.1, p.2) (head_refused _ c.in_err-head.ensures)
 
 pub loop-init : goal.loop-init
-loop-init c =
-    rw c.no_tasks.ensures (going_start (task_step _ _) _ c.in_ok-head.first (omega arith), nobody_blocked _ refl)
+unfolding fresh_table
+loop-init c = rw c.fresh.ensures (going_start (task_step _ _) _ c.in_ok-head.first (omega arith), nobody_blocked _ refl)
 
 pub returns-in_err-entry-clause-read : goal.returns-in_err-entry-clause-read
 returns-in_err-entry-clause-read c =
@@ -35,8 +36,8 @@ offset_bounds-table-k c = record { fits = omega (arith, entry_within _ _ _ _ c.i
 pub bounds-table-k : goal.bounds-table-k
 bounds-table-k c = omega (arith, entry_within _ _ _ _ c.in_ok-entry.ensures)
 
-pub members-requires : goal.members-requires
-members-requires c = omega (arith, entry_within _ _ _ _ c.in_ok-entry.ensures)
+pub lay_members-requires : goal.lay_members-requires
+lay_members-requires c = omega (arith, entry_within _ _ _ _ c.in_ok-entry.ensures)
 
 pub returns-in_err-at-clause-read : goal.returns-in_err-at-clause-read
 unfolding with_state

@@ -9,6 +9,6 @@ use Rattle.sheet.proofs.reader.lay.Given as goal
 
 abbrev pub invariant-loop : goal.invariant-loop
 invariant-loop l =
-    (going (task_step l.sheet l.opened) (l.end - l.counter) l.floor l.table l.at
-    ≡ each (task_step l.sheet l.opened) l.end (no_tasks l.opened) l.first)
+    (going (task_step l.sheet l.head.opened) (l.end - l.counter) l.floor l.table l.at
+    ≡ each (task_step l.sheet l.head.opened) l.end (no_tasks l.head.opened) l.first)
     × BlockedSet l.table l.blocked

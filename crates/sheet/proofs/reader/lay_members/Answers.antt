@@ -6,8 +6,8 @@ use Rattle.sheet.specs.Reader.{member_step}
 use Rattle.sheet.proofs.Onward.{going_start, going_turn, going_refused, going_end}
 use Rattle.sheet.proofs.Bounds.{event_within}
 use Rattle.sheet.proofs.Steps.{member_read, member_refused}
-use Rattle.sheet.proofs.reader.members.Goals.{In_ok-joined}
-use Rattle.sheet.proofs.reader.members.Goals as goal
+use Rattle.sheet.proofs.reader.lay_members.Goals.{In_ok-joined}
+use Rattle.sheet.proofs.reader.lay_members.Goals as goal
 
 pub loop-init : goal.loop-init
 loop-init c = (going_start (member_step _ _ _) c.args.table.now c.args.first (omega arith), refl)

@@ -4,7 +4,7 @@ use Prim.Native.Nat.{◌-◌}
 use Rattle.fields.specs.Got.{each}
 use Rattle.sheet.specs.Reader.{member_step}
 use Rattle.sheet.proofs.Onward.{going}
-use Rattle.sheet.proofs.reader.members.Given as goal
+use Rattle.sheet.proofs.reader.lay_members.Given as goal
 
 abbrev pub invariant-loop : goal.invariant-loop
 invariant-loop l =
