@@ -1,4 +1,4 @@
--- A number that was read is at most its field's largest value, and at least its list's floor.
+-- A number that was read is at most its field's largest value.
 use Prim.Native.Nat.{ℕ, ◌≤◌}
 use mathlib.Core.Path.{◌≡◌, refl, sym}
 use mathlib.Core.Bool.{Bool, cond, true, false}
@@ -6,7 +6,7 @@ use mathlib.Core.List.{List}
 use native.Mathlib.Omega.{arith}
 use lib.Dec.{leb, ltb}
 use lib.ListN.{get_or}
-use borrow.Author.Tests.{leb-true, ltb-false}
+use borrow.Author.Tests.{leb-true}
 use Rattle.states.specs.State.{largest_phase, event}
 use Rattle.states.specs.declared.state.Event.{Event}
 use Rattle.fields.specs.Got.{Got, value, refused}
@@ -32,13 +32,13 @@ number_bound s m at {v} e =
     let z : c.it ≡ v = cc in
     rw (← z) (leb-true c.it m p.0)
 
-pub rising_within : (s : List ℕ) (m floor at : ℕ) {v next : ℕ} → value v next ≡ rising_at s m floor at → (floor ≤ v) × (v ≤ m)
+pub rising_bound : (s : List ℕ) (m floor at : ℕ) {v next : ℕ} → value v next ≡ rising_at s m floor at → v ≤ m
 unfolding rising_at
-rising_within s m floor at {v} e =
+rising_bound s m floor at {v} e =
     let c = came (number_at s m at) _ (sym e) in
     let k = kept (ltb c.it floor) _ _ c.onto in
     let z : c.it ≡ v = cc in
-    rw (← z) (ltb-false c.it floor k.0, number_bound s m at (sym c.from))
+    rw (← z) (number_bound s m at (sym c.from))
 
 pub event_within : (s : List ℕ) (opened : List Bool) (floor at : ℕ) {e : Event} {next : ℕ} → value e next ≡ event_at s opened floor at → e.phaser.0 ≤ 15
 unfolding event_at phase_on
@@ -47,7 +47,7 @@ event_within s opened floor at {e} h =
     let p = passed (get_or opened c.it false) _ _ c.onto in
     let n = came (number_at s largest_phase c.at) _ p.1 in
     let z : event c.it n.it ≡ e = cc in
-    rw (← z) (rising_within s 15 floor at (sym c.from)).1
+    rw (← z) (rising_bound s 15 floor at (sym c.from))
 
 pub entry_within : (s : List ℕ) (opened : List Bool) (floor at : ℕ) {e : Entry} {next : ℕ} → value e next ≡ entry_at s opened floor at → e.number.0 ≤ 31
 unfolding entry_at entry_on count_on
@@ -56,4 +56,7 @@ entry_within s opened floor at {e} h =
     let state = came (state_on s opened number.at) _ number.onto in
     let members = came (number_at s 16 state.at) _ state.onto in
     let z : entry_of number.it state.it members.it ≡ e = cc in
-    rw (← z) (rising_within s 31 floor at (sym number.from)).1
+    rw (← z) (rising_bound s 31 floor at (sym number.from))
+
+-- for the attributes of the functions
+pub ruleset bounds = (number_bound, rising_bound, event_within, entry_within)

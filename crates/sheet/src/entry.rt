@@ -11,7 +11,7 @@ use fields::place::Read;
 use states::state::{Event, LARGEST_PHASE, Phase, PhaserNo, State, TaskNo};
 
 // A phaser and a phase: of a membership, or of the event that a blocked task awaits.
-#[tactic(auto, unfolding(crate::specs::Entry::phase_on, crate::specs::Entry::event_at))]
+#[tactic(auto, using(crate::proofs::Bounds::bounds), unfolding(crate::specs::Entry::phase_on, crate::specs::Entry::event_at))]
 pub(crate) fn event_at(sheet: &[u8], opened: &[bool; 16], floor: u64, at: usize) -> Read<Event>
     ensures { got result ≡ event_at sheet.now opened.now floor at }
 {
@@ -19,11 +19,10 @@ pub(crate) fn event_at(sheet: &[u8], opened: &[bool; 16], floor: u64, at: usize)
     let Number::Value(phaser, next) = number else {
         return Err(refusal_of(number));
     };
-    let i = phaser as usize;
-    if !opened[i] {
+    if !opened[phaser as usize] {
         return Err(Refusal::NotOpen);
     }
-    let number = number::read(sheet, LARGEST_PHASE as u64, next);
+    let number = number::read(sheet, u64::from(LARGEST_PHASE), next);
     let Number::Value(phase, end) = number else {
         return Err(refusal_of(number));
     };

@@ -10,6 +10,7 @@ use fields::number::Number;
 use fields::place::Read;
 
 // How many open phasers, and each.
+#[tactic(auto, using(crate::proofs::Bounds::bounds), unfolding(crate::specs::Head::opens_at))]
 fn opens_at(sheet: &[u8], at: usize) -> Read<[bool; 16]>
     ensures { got result ≡ opens_at sheet.now at }
 {
@@ -25,8 +26,7 @@ fn opens_at(sheet: &[u8], at: usize) -> Read<[bool; 16]>
         let Number::Value(phaser, after) = number else {
             return Err(refusal_of(number));
         };
-        let i = phaser as usize;
-        opened[i] = true;
+        opened[phaser as usize] = true;
         floor = phaser + 1;
         next = after;
     }

@@ -14,6 +14,7 @@ use hall::table::Table;
 use states::state::Task;
 
 // So many memberships of a task, laid into the table, and the next place.
+#[tactic(auto, using(crate::proofs::Bounds::bounds))]
 fn lay_members(
     sheet: &[u8],
     opened: &[bool; 16],
@@ -41,6 +42,7 @@ fn lay_members(
 }
 
 // The sheet, laid into the table, and who is blocked; at a refusal the table is left as far as it was laid.
+#[tactic(auto, using(crate::proofs::Bounds::bounds))]
 fn lay(sheet: &[u8], table: &mut Table) -> Result<u32, Refusal>
     ensures read { hands (answer_of result) (unless_refused result table.new) ≡ sheet_at sheet.now }
     ensures blocked { IfOk result (λ blocked. BlockedSet table.new blocked) }

@@ -26,7 +26,8 @@ returns-then-group-lt128 c =
     let l = c.loop-i in
     let read = group_read (goal.at.returns-then-group-lt128 c).After-from-group in
     rw read
-    (over_last l.value l.weight _ _ (further - l.i) (omega arith) c.in-Some.ensures.lookup.3.0 (λ e. omega (arith, read)) (omega (arith, read)) ∙ l.invariant.1)
+    (over_last l.value l.weight _ _ (further - l.i) (omega arith) c.in-Some.ensures.lookup.3.0 (λ e. omega (arith, read)) (omega (arith, read))
+    ∙ l.invariant.1)
 
 pub overflow_mul-value : goal.overflow_mul-value
 overflow_mul-value c =

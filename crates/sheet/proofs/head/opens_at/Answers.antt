@@ -2,13 +2,8 @@ use native.Mathlib.Omega.{arith}
 use mathlib.Core.Path.{sym, ◌∙◌}
 use Rattle.sheet.specs.Head.{open_step, opens_at}
 use Rattle.sheet.proofs.Onward.{going_start, going_turn, going_refused, going_end}
-use Rattle.sheet.proofs.Bounds.{rising_within}
 use Rattle.sheet.proofs.Steps.{open_read, open_refused}
 use Rattle.sheet.proofs.head.opens_at.Goals as goal
-
-pub returns-in_default : goal.returns-in_default
-unfolding opens_at
-returns-in_default c = rw (← c.read-number.ensures, c.refusal_of.ensures)
 
 pub loop-init : goal.loop-init
 loop-init c = going_start (open_step _) _ c.in-Value.first (omega arith)
@@ -19,12 +14,6 @@ returns-in_default-number c =
     let l = c.loop in
     let refused = open_refused _ _ _ l.opened (sym c.refusal_of-in_default-number.ensures ∙ c.rising-number.ensures) in
     rw (← c.in-Value.ensures) (going_refused (open_step _) l.floor l.opened l.next (omega arith) refused ∙ l.invariant)
-
-pub bounds-opened-i : goal.bounds-opened-i
-bounds-opened-i c = omega (arith, (rising_within _ _ _ _ c.in-Value-number.ensures).1)
-
-pub overflow_add-floor : goal.overflow_add-floor
-overflow_add-floor c = record { fits = omega (arith, (rising_within _ _ _ _ c.in-Value-number.ensures).1) }
 
 pub loop-preserved : goal.loop-preserved
 loop-preserved c =

@@ -30,15 +30,6 @@ returns-in_err-entry-clause-read c =
     (tasks_refused _ c.in_ok-head.ensures
     (going_refused (task_step _ _) l.floor l.table l.at (omega arith) (entry_refused _ _ _ _ l.table c.in_err-entry.ensures) ∙ l.invariant.0))
 
-pub offset_bounds-table-k : goal.offset_bounds-table-k
-offset_bounds-table-k c = record { fits = omega (arith, entry_within _ _ _ _ c.in_ok-entry.ensures) }
-
-pub bounds-table-k : goal.bounds-table-k
-bounds-table-k c = omega (arith, entry_within _ _ _ _ c.in_ok-entry.ensures)
-
-pub lay_members-requires : goal.lay_members-requires
-lay_members-requires c = omega (arith, entry_within _ _ _ _ c.in_ok-entry.ensures)
-
 pub returns-in_err-at-clause-read : goal.returns-in_err-at-clause-read
 unfolding with_state
 returns-in_err-at-clause-read c =
@@ -49,9 +40,6 @@ returns-in_err-at-clause-read c =
     (going_refused (task_step _ _) l.floor l.table l.at (omega arith) (task_refused _ _ _ _ l.table c.in_ok-entry.ensures c.in_err-at.ensures.read)
     ∙ l.invariant.0))
 
-pub overflow_add-floor : goal.overflow_add-floor
-overflow_add-floor c = record { fits = omega (arith, entry_within _ _ _ _ c.in_ok-entry.ensures) }
-
 pub loop-preserved : goal.loop-preserved
 unfolding with_state
 loop-preserved c =
@@ -59,7 +47,8 @@ loop-preserved c =
     let below : c.in_ok-entry.entry.number.0 < 32 = omega (arith, entry_within _ _ _ _ c.in_ok-entry.ensures) in
     let long : length l.table.tasks ≡ 32 = search rules in
     let told = c.is_blocked.ensures in (
-      going_turn (task_step _ _) l.floor l.table l.at (omega arith) (omega arith) (task_read _ _ _ _ l.table c.in_ok-entry.ensures c.in_ok-at.ensures.read) ∙ l.invariant.0,
+      going_turn (task_step _ _) l.floor l.table l.at (omega arith) (omega arith)
+          (task_read _ _ _ _ l.table c.in_ok-entry.ensures c.in_ok-at.ensures.read) ∙ l.invariant.0,
       mark_one l.table _ _ _ below long c.in_ok-at.ensures.tasks
           _ _ _ _ _ (omega arith) (omega arith) (λ e. rw (told ∙ e) refl) (λ e. rw (told ∙ e) refl) c.marked-blocked.ensures l.invariant.1,
     )

@@ -4,7 +4,6 @@ use Rattle.std.proofs.lemmas.Result.{err_from_is_err_and}
 use Rattle.hall.specs.Effects.{with_entry}
 use Rattle.sheet.specs.Reader.{member_step}
 use Rattle.sheet.proofs.Onward.{going_start, going_turn, going_refused, going_end}
-use Rattle.sheet.proofs.Bounds.{event_within}
 use Rattle.sheet.proofs.Steps.{member_read, member_refused}
 use Rattle.sheet.proofs.reader.lay_members.Goals.{In_ok-joined}
 use Rattle.sheet.proofs.reader.lay_members.Goals as goal
@@ -18,21 +17,6 @@ returns-in_err-joined-clause-read c =
     let p = err_from_is_err_and c.from_residual.result c.from_residual.ensures.1 in
     rw (p.1, p.2)
     (going_refused (member_step _ _ _) l.floor l.table l.at (omega arith) (member_refused _ _ _ _ l.table _ c.in_err-joined.ensures) ∙ l.invariant.0)
-
-pub overflow_add-i : goal.overflow_add-i
-overflow_add-i c = record { fits = omega (arith, event_within _ _ _ _ c.in_ok-joined.ensures) }
-
-pub offset_bounds-table-i : goal.offset_bounds-table-i
-offset_bounds-table-i c = record { fits = omega (arith, event_within _ _ _ _ c.in_ok-joined.ensures) }
-
-pub bounds-table-i : goal.bounds-table-i
-bounds-table-i c = omega (arith, event_within _ _ _ _ c.in_ok-joined.ensures)
-
-pub bounds-table-i-in-loop : goal.bounds-table-i-in-loop
-bounds-table-i-in-loop c = omega (arith, event_within _ _ _ _ c.in_ok-joined.ensures)
-
-pub overflow_add-floor : goal.overflow_add-floor
-overflow_add-floor c = record { fits = omega (arith, event_within _ _ _ _ c.in_ok-joined.ensures) }
 
 pub loop-preserved : goal.loop-preserved
 unfolding with_entry
