@@ -1,4 +1,4 @@
-// The refusal that the reader hands on.
+// What a part of the reader hands on where a number was refused.
 ghost use Rattle.std.specs.Prelude.{◌≡◌};
 ghost use Rattle.fields.specs.Number.{outcome};
 ghost use Rattle.answers.specs.Answers.{number_of};
@@ -8,7 +8,7 @@ ghost use Rattle.sheet.specs.Parts.{IsRefused};
 use answers::Refusal;
 use fields::number::Number;
 
-// Of a number that was not read.
+// Why there is no value: asked only of a number that `let else` found refused.
 pub(crate) fn refusal_of(number: Number) -> Refusal
     requires { IsRefused number }
     ensures { outcome number ≡ refused (number_of result) }
