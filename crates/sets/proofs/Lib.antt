@@ -6,3 +6,4 @@ pub mod Loops
 pub mod One
 pub mod Widths
 pub mod Masks
+pub mod Testing

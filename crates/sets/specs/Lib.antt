@@ -1,1 +1,3 @@
 pub mod Set
+pub mod Rising
+pub mod Tested

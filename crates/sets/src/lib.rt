@@ -1,7 +1,10 @@
 #![tactic(auto)]
 
 ghost use Rattle.std.specs.Prelude.{◌≡◌, true, false, ◌↔◌, ◌⊎◌, ℕ, ◌<◌};
+ghost use Rattle.std.specs.Iterator.{at_most};
 ghost use Rattle.sets.specs.Set.{Has, size, LowestOf};
+ghost use Rattle.sets.specs.Rising.{Next};
+ghost use Rattle.sets.specs.Tested.{First, Those};
 
 // Whether the task is in the set.
 pub fn has(set: u32, task: usize) -> bool
@@ -93,4 +96,58 @@ pub fn until(left: u32, found: bool) -> u32
     ensures { (t : ℕ) → LowestOf left t → (k : ℕ) → Has result k ↔ ((found ≡ false) × Has left k × (k ≡ t → ⊥)) }
 {
     if found { 0 } else { rest(left) }
+}
+
+// The tasks of a set, lowest first.
+#[derive(Clone, Copy)]
+pub struct Rising {
+    left: u32,
+}
+
+pub fn each(set: u32) -> Rising
+    ensures { result.left ≡ set }
+{
+    Rising { left: set }
+}
+
+impl Iterator for Rising {
+    type Item = usize;
+
+    ghost next_gives = { λ s r t. Next s.left r t.left };
+
+    ghost remaining = { λ s. at_most s.left };
+
+    fn next(&mut self) -> Option<usize> {
+        let left = self.left;
+        if left == 0 {
+            return None;
+        }
+        self.left = rest(left);
+        Some(lowest(left))
+    }
+}
+
+// Those of the set for whom the test holds.
+pub fn those<F: Fn(usize) -> bool>(set: u32, test: F) -> u32
+    requires { (k : ℕ) → Has set k → F.pre test k }
+    ensures { Those (Has set) (F.post test) (Has result) }
+{
+    let mut found = set;
+    for task in each(set) {
+        found = kept(found, task, test(task));
+    }
+    found
+}
+
+// The lowest of the set for whom the test holds.
+pub fn first<F: Fn(usize) -> bool>(set: u32, test: F) -> Option<usize>
+    requires { (k : ℕ) → Has set k → F.pre test k }
+    ensures { First (Has set) (F.post test) result }
+{
+    for task in each(set) {
+        if test(task) {
+            return Some(task);
+        }
+    }
+    None
 }
