@@ -26,14 +26,12 @@ module _ (all : ℕ) (Edge : ℕ → ℕ → Type 0) where
   RowAt todo rows k = (u : ℕ) → Has (get_or rows k 0) u ↔ ((Has all k × (Has todo k → ⊥)) × Edge k u)
 
   pub record Filled (todo : ℕ) (rows : List ℕ) : Type 0 where
-    pub fits : todo < 2 ^ 32
     pub long : length rows ≡ 32
     pub within : Within todo all
     pub iff : (k : ℕ) → k < 32 → RowAt todo rows k
 
-  pub fill_start : all < 2 ^ 32 → Filled all (replicate 32 0)
-  fill_start f = record {
-    fits = f;
+  pub fill_start : Filled all (replicate 32 0)
+  fill_start = record {
     long = refl;
     within = λ k h. h;
     iff = λ k l u. (λ h. absurd (none_has u (rw (get_or-replicate {A = ℕ} 32 k 0 0 l) at h)), λ h. absurd (h.0.1 h.0.0));
@@ -58,9 +56,8 @@ module _ (all : ℕ) (Edge : ℕ → ℕ → Type 0) where
     each j m (yes q) = subst (RowAt rest (set rows k by)) (sym q) mine
     each j m (no n) = other j m n
 
-    pub fill_more : rest < 2 ^ 32 → Filled rest (set rows k by)
-    fill_more f = record {
-      fits = f;
+    pub fill_more : Filled rest (set rows k by)
+    fill_more = record {
       long = length-set rows k by ∙ g.long;
       within = λ j p. g.within j ((taken j).0 p).0;
       iff = λ j m. each j m (ℕ_discrete j k);

@@ -1,25 +1,24 @@
 // Document 01, 'Stuck': who is blocked, and who impedes whom.
+ghost use Rattle.std.specs.Prelude.{◌≡◌, ◌+◌, ◌*◌, ◌<◌, true, get_or};
 ghost use Rattle.seating.specs.Parts.{BlockedIn, RowsIn};
+ghost use Rattle.states.specs.Parts.{impedes_at};
+ghost use Rattle.states.specs.State.{free_task, is_blocked, phase0};
 
 use crate::seats::Seats;
 use states::state::{Phase, Task};
 use states::waiting::{column, event_of, impedes};
 
-// The blocked tasks. What is left is cut down to what is kept so that the loop's length is not known when compiled: a loop of known length is
-// unrolled, and breaks the table into pieces that are copied one by one.
+// The blocked tasks.
 pub fn blocked_of(tasks: [Task; 32]) -> u32
     ensures { BlockedIn tasks result }
 {
-    let mut set: u32 = 0xffff_ffff;
-    let mut left: u32 = 0xffff_ffff;
-    while left != 0 {
-        let t = sets::lowest(left);
-        let task = tasks[t];
-        let state = task.state;
-        set = sets::kept(set, t, state.is_blocked());
-        left = sets::common(sets::take(left, t), set);
-    }
-    set
+    sets::those(
+        0xffff_ffff,
+        |t|
+            requires { t < 32 }
+            ensures { result ≡ is_blocked (get_or tasks t free_task).state }
+        { tasks[t].state.is_blocked() },
+    )
 }
 
 // For each of those seated, who of them impedes its event: only members of its phaser are looked at.
@@ -28,22 +27,16 @@ pub fn edges_of(tasks: [Task; 32], phases: [Phase; 512], seats: Seats) -> [u32; 
 {
     let members = seats.members;
     let mut rows = [0u32; 32];
-    let mut todo = seats.all;
-    while todo != 0 {
-        let t = sets::lowest(todo);
-        let task = tasks[t];
-        let event = event_of(task);
+    for t in sets::each(seats.all) {
+        let event = event_of(tasks[t]);
         let place = column(event);
-        let mut impeders = members[place];
-        let mut left = impeders;
-        while left != 0 {
-            let u = sets::lowest(left);
-            let phase = phases[u * 16 + place];
-            impeders = sets::kept(impeders, u, impedes(true, phase, event));
-            left = sets::rest(left);
-        }
-        rows[t] = impeders;
-        todo = sets::rest(todo);
+        rows[t] = sets::those(
+            members[place],
+            |u|
+                requires { (u < 32) × (place < 16) }
+                ensures { result ≡ impedes_at true (get_or phases (u * 16 + place) phase0) event }
+            { impedes(true, phases[u * 16 + place], event) },
+        );
     }
     rows
 }

@@ -1,5 +1,5 @@
 -- A set gone through by a test, lowest first: what is known on the way, at the start, after a step, at the end.
-use mathlib.Core.Path.{◌≡◌, refl, sym, ap, subst}
+use mathlib.Core.Path.{◌≡◌, refl, sym, ap, subst, ◌∙◌}
 use mathlib.Core.Bool.{Bool, true, false, cond}
 use mathlib.Core.Logic.{◌↔◌, ◌⊎◌, inl, inr}
 use Prim.Native.Nat.{ℕ, ◌^◌, ◌<◌, ◌≤◌}
@@ -89,3 +89,7 @@ module _ (P : ℕ → Type 0) {In : ℕ → Type 0} {Said : ℕ → Bool → Typ
 
   pub first_none : First In Said None → (k : ℕ) → In k → P k → ⊥
   first_none found k h p = never ((means k false h (found k h)).1 p)
+
+-- a test that gives the value of f means that the value is true
+pub gives : {b y : Bool} → b ≡ y → (b ≡ true) ↔ (y ≡ true)
+gives e = (λ p. sym e ∙ p, λ p. e ∙ p)

@@ -129,7 +129,7 @@ impl Iterator for Rising {
 
 // Those of the set for whom the test holds.
 pub fn those<F: Fn(usize) -> bool>(set: u32, test: F) -> u32
-    requires { (k : ℕ) → Has set k → F.pre test k }
+    requires { (k : ℕ) → k < 32 → Has set k → F.pre test k }
     ensures { Those (Has set) (F.post test) (Has result) }
 {
     let mut found = set;
@@ -141,7 +141,7 @@ pub fn those<F: Fn(usize) -> bool>(set: u32, test: F) -> u32
 
 // The lowest of the set for whom the test holds.
 pub fn first<F: Fn(usize) -> bool>(set: u32, test: F) -> Option<usize>
-    requires { (k : ℕ) → Has set k → F.pre test k }
+    requires { (k : ℕ) → k < 32 → Has set k → F.pre test k }
     ensures { First (Has set) (F.post test) result }
 {
     for task in each(set) {

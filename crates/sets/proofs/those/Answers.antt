@@ -10,12 +10,12 @@ loop-task-init g c = (tt, tt, rw (c.into_iter-task-iterator.ensures.into_iter_gi
 pub test-requires : goal.test-requires
 test-requires g c =
     let step = c.in-Some.ensures.steps in
-    c.requires _ (c.loop-task.invariant.2.within _ (step.1.some step.0).holds)
+    c.requires _ step.0 (c.loop-task.invariant.2.within _ step.1.holds)
 
 pub loop-task-preserved : goal.loop-task-preserved
 loop-task-preserved g c =
     let step = c.in-Some.ensures.steps in
-    (tt, tt, test_more _ c.loop-task.invariant.2 (step.1.some step.0).holds step.2 c.test.ensures c.kept-found.ensures)
+    (tt, tt, test_more _ c.loop-task.invariant.2 step.1.holds step.2 c.test.ensures c.kept-found.ensures)
 
 pub returns : goal.returns
 returns g c = test_done _ (c.in-None.ensures.steps.0) c.loop-task.invariant.2
