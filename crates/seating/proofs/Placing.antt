@@ -52,9 +52,9 @@ module _ (all : ℕ) (Sits : ℕ → ℕ → Type 0) where
   abbrev pub Gone : ℕ → ℕ → ℕ → Type 0
   Gone left q u = Has all u × (Has left u → ⊥) × Sits u q
 
-  -- and t, which is left, to those of its sets that are below p
+  -- and t, which is not left either, to those of its sets that are below p only
   abbrev pub Going : ℕ → ℕ → ℕ → ℕ → ℕ → Type 0
-  Going left t p q u = Gone left q u ⊎ ((u ≡ t) × (q < p) × Sits u q)
+  Going left t p q u = (Gone left q u × (u ≡ t → ⊥)) ⊎ ((u ≡ t) × (q < p) × Sits u q)
 
   pub gone_start : Sets (Gone all) (replicate 16 0)
   gone_start = record {
@@ -65,53 +65,58 @@ module _ (all : ℕ) (Sits : ℕ → ℕ → Type 0) where
   pub gone_done : {sets : List ℕ} → Sets (Gone 0) sets → (q u : ℕ) → q < 16 → Has (get_or sets q 0) u ↔ (Has all u × Sits u q)
   gone_done g q u l = let p = g.iff q u l in (λ h. let x = p.0 h in (x.0, x.2), λ h. p.1 (h.0, none_has u, h.1))
 
-  pub going_start : {sets : List ℕ} (left t : ℕ) → Sets (Gone left) sets → Sets (Going left t 0) sets
-  going_start left t g = sets_along (λ q u l. (λ h. inl h, ⊎_elim (λ h. h) (λ h. absurd (omega arith)))) g
+  going_more : {sets : List ℕ} (left t p r : ℕ) (b : Bool) → t < 32 → Sets (Going left t p) sets → p < 16 → ((b ≡ true) ↔ Sits t p)
+      → Marked (get_or sets p 0) t b r → Sets (Going left t (p + 1)) (set sets p r)
+  going_more left t p r b near g l iff marked = sets_marked p t r b g l marked other here
+    where
+      other : (q u : ℕ) → (q ≡ p → ⊥) → Going left t p q u ↔ Going left t (p + 1) q u
+      other q u n = (
+        ⊎_elim (λ h. inl h) (λ h. inr (h.0, omega arith, h.2)),
+        ⊎_elim (λ h. inl h) (λ h. inr (h.0, omega arith, h.2)),
+      )
+
+      here : (u : ℕ) → (((u < 32) × (u ≡ t) × (b ≡ true)) ⊎ (Going left t p p u × (u ≡ t → ⊥))) ↔ Going left t (p + 1) p u
+      here u = (
+        ⊎_elim
+            (λ h. inr (h.1, omega arith, subst (λ k. Sits k p) (sym h.1) (iff.0 h.2)))
+            (λ h. ⊎_elim (λ x. inl x) (λ x. absurd (h.1 x.0)) h.0),
+        ⊎_elim (λ h. inr (inl h, h.1)) (λ h. inl (omega arith, h.0, iff.1 (subst (λ k. Sits k p) h.0 h.2))),
+      )
 
   module _ (left t : ℕ) (inside : Has left t) where
-    going_more : {sets : List ℕ} (p r : ℕ) (b : Bool) → t < 32 → Sets (Going left t p) sets → p < 16 → ((b ≡ true) ↔ Sits t p)
-        → Marked (get_or sets p 0) t b r → Sets (Going left t (p + 1)) (set sets p r)
-    going_more p r b near g l iff marked = sets_marked p t r b g l marked other here
-      where
-        other : (q u : ℕ) → (q ≡ p → ⊥) → Going left t p q u ↔ Going left t (p + 1) q u
-        other q u n = (
-          ⊎_elim (λ h. inl h) (λ h. inr (h.0, omega arith, h.2)),
-          ⊎_elim (λ h. inl h) (λ h. inr (h.0, omega arith, h.2)),
-        )
-
-        here : (u : ℕ) → (((u < 32) × (u ≡ t) × (b ≡ true)) ⊎ (Going left t p p u × (u ≡ t → ⊥))) ↔ Going left t (p + 1) p u
-        here u = (
-          ⊎_elim
-              (λ h. inr (h.1, omega arith, subst (λ k. Sits k p) (sym h.1) (iff.0 h.2)))
-              (λ h. ⊎_elim (λ x. inl x) (λ x. absurd (h.1 x.0)) h.0),
-          ⊎_elim
-              (λ h. inr (inl h, λ e. h.1 (subst (Has left) (sym e) inside)))
-              (λ h. inl (omega arith, h.0, iff.1 (subst (λ k. Sits k p) h.0 h.2))),
-        )
-
     module _ (rest : ℕ) (within : Has all t) (taken : Taken left t rest) where
       -- who is not in what is left now is t, or was gone before
       later : (q u : ℕ) → Gone rest q u → (u ≡ t) ⊎ (Has left u → ⊥)
       later q u h = taken_out left t rest u taken h.1
 
-      pub going_done : {sets : List ℕ} → Sets (Going left t 16) sets → Sets (Gone rest) sets
-      going_done g = sets_along (λ q u l. (into q u, from q u l)) g
+      before : (q u : ℕ) → Gone left q u → Gone rest q u
+      before q u h = (h.0, λ x. h.1 ((taken u).0 x).0, h.2)
+
+      pub going_start : {sets : List ℕ} → Sets (Gone left) sets → Sets (Going rest t 0) sets
+      going_start g = sets_along (λ q u l. (into q u, ⊎_elim (λ h. from q u h) (λ h. absurd (omega arith)))) g
         where
-          into : (q u : ℕ) → Going left t 16 q u → Gone rest q u
-          into q u (inl h) = (h.0, λ r. h.1 ((taken u).0 r).0, h.2)
+          into : (q u : ℕ) → Gone left q u → Going rest t 0 q u
+          into q u h = inl (before q u h, λ e. h.1 (subst (Has left) (sym e) inside))
+
+          from : (q u : ℕ) → Gone rest q u × (u ≡ t → ⊥) → Gone left q u
+          from q u h = (h.0.0, λ x. h.0.1 ((taken u).1 (x, h.1)), h.0.2)
+
+      pub going_done : {sets : List ℕ} → Sets (Going rest t 16) sets → Sets (Gone rest) sets
+      going_done g = sets_along (λ q u l. (into q u, λ h. from q u l h (ℕ_discrete u t))) g
+        where
+          into : (q u : ℕ) → Going rest t 16 q u → Gone rest q u
+          into q u (inl h) = h.0
           into q u (inr h) = (subst (Has all) (sym h.0) within, λ r. ((taken u).0 r).1 h.0, h.2)
 
-          from : (q u : ℕ) → q < 16 → Gone rest q u → Going left t 16 q u
-          from q u l h = ⊎_elim (λ e. inr (e, l, h.2)) (λ n. inl (h.0, n, h.2)) (later q u h)
+          from : (q u : ℕ) → q < 16 → Gone rest q u → Dec (u ≡ t) → Going rest t 16 q u
+          from q u l h (yes e) = inr (e, l, h.2)
+          from q u l h (no n) = inl (h, n)
 
       -- where t has one place only, it is gone at once
       pub gone_more : {sets : List ℕ} (place r : ℕ) → t < 32 → Sets (Gone left) sets → place < 16
           → ((q : ℕ) → Sits t q ↔ (q ≡ place)) → Marked (get_or sets place 0) t true r → Sets (Gone rest) (set sets place r)
       gone_more place r near g l only marked = sets_marked place t r true g l marked other here
         where
-          before : (q u : ℕ) → Gone left q u → Gone rest q u
-          before q u h = (h.0, λ x. h.1 ((taken u).0 x).0, h.2)
-
           other : (q u : ℕ) → (q ≡ place → ⊥) → Gone left q u ↔ Gone rest q u
           other q u n = (
             before q u,
@@ -133,7 +138,7 @@ one_place {e} {f} {place} is column q =
     (λ h. sym h ∙ sym z ∙ sym column, λ h. sym z ∙ sym column ∙ sym h)
 
 -- who has an entry sits there: t goes by the entry that the code reads, at whatever number it reckons the place to be
-module _ (entries : List Bool) (all left t : ℕ) (inside : Has left t) where
+module _ (entries : List Bool) (all left t : ℕ) where
   abbrev Entered : ℕ → ℕ → Type 0
   Entered u q = get_or entries (u * 16 + q) false ≡ true
 
@@ -141,4 +146,4 @@ module _ (entries : List Bool) (all left t : ℕ) (inside : Has left t) where
       → Marked (get_or sets p 0) t (get_or entries i false) r → Sets (Going all Entered left t (p + 1)) (set sets p r)
   going_entry p i r near g l e marked =
       let z = ap (λ i. get_or entries i false) e in
-      going_more all Entered left t inside p r (get_or entries i false) near g l (λ h. sym z ∙ h, λ h. z ∙ h) marked
+      going_more all Entered left t p r (get_or entries i false) near g l (λ h. sym z ∙ h, λ h. z ∙ h) marked

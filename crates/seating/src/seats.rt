@@ -20,18 +20,12 @@ pub fn seats_of(tasks: [Task; 32], members: [bool; 512], all: u32) -> Seats
 {
     let mut seated = [0u32; 16];
     let mut waiters = [0u32; 16];
-    let mut left = all;
-    while left != 0 {
-        let t = sets::lowest(left);
-        let task = tasks[t];
-        let place = column(event_of(task));
+    for t in sets::each(all) {
+        let place = column(event_of(tasks[t]));
         waiters[place] = sets::marked(waiters[place], t, true);
-        let mut p: usize = 0;
-        while p < 16 {
+        for p in 0..16usize {
             seated[p] = sets::marked(seated[p], t, members[t * 16 + p]);
-            p += 1;
         }
-        left = sets::rest(left);
     }
     Seats {
         all,

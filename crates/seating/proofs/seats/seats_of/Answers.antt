@@ -1,57 +1,43 @@
-use mathlib.Core.Path.{◌≡◌}
+use mathlib.Core.Path.{◌≡◌, refl}
 use Prim.Native.Nat.{◌<◌}
 use native.Mathlib.Omega.{arith}
-use Rattle.sets.proofs.Loops.{lowest_has, lowest_lt, lowest_less}
-use Rattle.seating.proofs.Placing.{gone_more, going_entry, going_done, one_place}
-use Rattle.seating.proofs.seats.seats_of.Goals.{After-column-place, After-lowest-t}
+use Rattle.seating.proofs.Placing.{gone_start, gone_done, gone_more, going_start, going_entry, going_done, one_place}
 use Rattle.seating.proofs.seats.seats_of.Goals as goal
 
--- the task that goes
-module _ (c : After-lowest-t) where
-  near : c.lowest-t.result < 32
-  near = lowest_lt c.loop-left.invariant.0 c.loop-left-test.true c.lowest-t.ensures
+pub loop-t-init : goal.loop-t-init
+loop-t-init c =
+    let all : c.into_iter-t-iterator.result.left ≡ c.args.all = cc (c.into_iter-t-iterator.ensures.into_iter_gives, c.each-t-items.ensures) in
+    rw all (tt, tt, λ k h. h, gone_start _ _, gone_start _ _)
 
-pub offset_bounds-tasks-t : goal.offset_bounds-tasks-t
-offset_bounds-tasks-t c = let l = near (goal.at.offset_bounds-tasks-t c).After-lowest-t in omega arith
-
-pub bounds-tasks-t : goal.bounds-tasks-t
-bounds-tasks-t c = near (goal.at.bounds-tasks-t c).After-lowest-t
-
-placed : (c : After-column-place) → c.column-place.result < 16
-placed c = let p = c.column-place.ensures in omega arith
-
-pub overflow_mul-t : goal.overflow_mul-t
-overflow_mul-t c = let l = near (goal.at.overflow_mul-t c).After-lowest-t in omega arith
-
-pub overflow_add-t : goal.overflow_add-t
-overflow_add-t c = let l = near (goal.at.overflow_add-t c).After-lowest-t in omega arith
-
-pub bounds-members-t : goal.bounds-members-t
-bounds-members-t c = let l = near (goal.at.bounds-members-t c).After-lowest-t in omega arith
+pub loop-p-init : goal.loop-p-init
+loop-p-init c =
+    let step = c.in-Some.ensures.steps in
+    let inv = c.loop-t.invariant in
+    let here = step.1.holds in
+    going_start _ _ _ _ here _ (inv.2 _ here) step.2 inv.3
 
 pub loop-p-preserved : goal.loop-p-preserved
 loop-p-preserved c =
-    let here = lowest_has c.loop-left.invariant.0 c.loop-left-test.true c.lowest-t.ensures in
-    let l : c.loop-p.p < 16 = omega (arith, c.loop-p-test.true) in
-    let entries = c.args.members in
-    let inv = c.loop-p.invariant in
-    (omega arith, going_entry entries _ _ _ here _ _ _ (near (goal.at.loop-p-preserved c).After-lowest-t) inv.1 l (omega arith) c.marked-in-loop-p.ensures)
+    going_entry c.args.members _ _ _ _ _ _ c.in-Some.ensures.steps.0 c.loop-p.invariant (omega arith) refl c.marked-in-loop-p.ensures
 
-pub loop-left-smaller : goal.loop-left-smaller
-loop-left-smaller c =
-    lowest_less c.loop-left.invariant.0 c.loop-left-test.true c.lowest-t.ensures _ c.rest-left.type_inv (c.rest-left.ensures _ c.lowest-t.ensures)
-
-pub loop-left-preserved : goal.loop-left-preserved
-loop-left-preserved c =
-    let inv = c.loop-left.invariant in
-    let here = lowest_has inv.0 c.loop-left-test.true c.lowest-t.ensures in
-    let taken = c.rest-left.ensures _ c.lowest-t.ensures in
-    let p = c.loop-p.invariant in
+pub loop-t-preserved : goal.loop-t-preserved
+loop-t-preserved c =
+    let step = c.in-Some.ensures.steps in
+    let inv = c.loop-t.invariant in
+    let here = step.1.holds in
+    let within = inv.2 _ here in
     let full : c.loop-p.p ≡ 16 = omega (arith, c.loop-p-test.false) in
+    let place = c.column-place.ensures in
+    let near : c.column-place.result < 16 = omega arith in
     let only = one_place c.event_of.ensures c.column-place.ensures in (
-      c.rest-left.type_inv,
-      λ k h. inv.1 k ((taken k).0 h).0,
-      going_done _ _ _ _ here _ (inv.1 _ here) taken (rw full at p.1),
-      gone_more _ _ _ _ here _ (inv.1 _ here) taken _ _ (near (goal.at.loop-left-preserved c).After-lowest-t) inv.3
-          (placed (goal.at.loop-left-preserved c).After-column-place) only c.marked.ensures,
+      tt,
+      tt,
+      λ k h. inv.2 k ((step.2 k).0 h).0,
+      going_done _ _ _ _ here _ within step.2 (rw full at c.loop-p.invariant),
+      gone_more _ _ _ _ here _ within step.2 _ _ step.0 inv.4 near only c.marked.ensures,
     )
+
+pub returns-clause-seated : goal.returns-clause-seated
+returns-clause-seated c =
+    let inv = rw c.in-None.ensures.steps.0 at c.loop-t.invariant in
+    record { members = gone_done _ _ inv.3; waiters = gone_done _ _ inv.4; long = (inv.3.long, inv.4.long) }

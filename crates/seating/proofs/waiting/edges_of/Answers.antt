@@ -1,4 +1,4 @@
-use mathlib.Core.Path.{◌≡◌, refl}
+use mathlib.Core.Path.{refl}
 use Prim.Native.Nat.{◌+◌, ◌*◌}
 use Rattle.sets.proofs.Testing.{those_with}
 use Rattle.seating.specs.Parts.{LateIn}
