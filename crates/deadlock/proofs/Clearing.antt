@@ -4,11 +4,13 @@ use mathlib.Core.Path.{◌≡◌, subst}
 use mathlib.Core.Logic.{◌↔◌}
 use mathlib.Core.List.{List}
 use Prim.Native.Nat.{ℕ, ◌+◌, ◌^◌, ◌≤◌, ◌<◌}
+use native.Mathlib.Decide.{ℕ_discrete}
 use native.Mathlib.Omega.{arith}
+use lib.Bits.{bit_and, and_le_r}
 use lib.ListN.{get_or}
 use borrow.Author.Count.{below_more}
 use Rattle.sets.specs.Set.{Has}
-use Rattle.sets.proofs.Members.{Within, Taken, has_lt, none_has, some_has}
+use Rattle.sets.proofs.Members.{Within, Taken, has_lt, none_has, some_has, and_iff}
 use Rattle.deadlock.specs.Walk.{EndlessWalk, Row, NamedBy}
 use Rattle.deadlock.proofs.Walks.{first, rest, follow}
 
@@ -89,3 +91,16 @@ module _ (among : ℕ) (rows : List ℕ) where
         let r = some_has 32 both f (omega arith) in
         let b = (common r.0).0 r.1 in
         clear_pass among (Row among rows) m t g l (λ h. (r.0, b.1, (g.within t h, b.0)))
+
+  -- where nobody who is left is without an edge into what is left, each has one
+  pub rows_closed : (m : ℕ) → m < 2 ^ 32 → Within m among
+      → ((t : ℕ) → Has m t → ((u : ℕ) → Has (get_or rows t 0) u → Has m u → ⊥) → ⊥) → Closed (Row among rows) m
+  rows_closed m f within some t h = go (ℕ_discrete (bit_and (get_or rows t 0) m) 0)
+    where
+      go : Dec (bit_and (get_or rows t 0) m ≡ 0) → (u : ℕ) × Has m u × Row among rows t u
+      go (yes z) = absurd (some t h (λ u a b. none_has u (subst (λ x. Has x u) z ((and_iff (get_or rows t 0) m u).1 (a, b)))))
+      go (no n) =
+          let le = and_le_r (get_or rows t 0) m in
+          let r = some_has 32 (bit_and (get_or rows t 0) m) (omega arith) (omega arith) in
+          let b = (and_iff (get_or rows t 0) m r.0).0 r.1 in
+          (r.0, b.1, (within t h, b.0))

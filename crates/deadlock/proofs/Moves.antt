@@ -2,8 +2,9 @@
 use mathlib.Core.Path.{refl, sym, subst}
 use mathlib.Core.Bool.{Bool}
 use mathlib.Core.Logic.{◌⊎◌, inl, inr}
-use mathlib.Core.List.{List}
+use mathlib.Core.List.{List, []}
 use Prim.Native.Nat.{ℕ, zero, suc, ◌^◌, ◌<◌}
+use Rattle.std.specs.Prelude.{Option, None, Some, true, false}
 use native.Mathlib.Omega.{arith}
 use lib.ListN.{get_or}
 use Rattle.sets.specs.Set.{Has}
@@ -43,8 +44,9 @@ module _ (Named : ℕ → Type 0) (Edge Edge' : ℕ → ℕ → Type 0) (steps :
     comes_moves _ r (round x) = round (ring_moves r x)
     comes_moves _ _ (stops x) = stops (end_moves x)
 
-    pub in_moves : (answer : Round) → RingIn Named Edge answer → RingIn Named Edge' answer
-    in_moves answer x = record { ring = x.ring; comes = comes_moves answer.closed x.ring x.comes; long = x.long; places = x.places }
+    pub in_moves : (answer : Option Round) → RingIn Named Edge answer → RingIn Named Edge' answer
+    in_moves None x = comes_moves false [] x
+    in_moves (Some answer) x = record { ring = x.ring; comes = comes_moves true x.ring x.comes; long = x.long; places = x.places }
 
 -- where the number at each named task's place is its step, or no named task's where it has none
 module _ (next : List ℕ) (m : ℕ) (fits : m < 2 ^ 32) (Edge : ℕ → ℕ → Type 0)
@@ -66,5 +68,5 @@ module _ (next : List ℕ) (m : ℕ) (fits : m < 2 ^ 32) (Edge : ℕ → ℕ →
   pub next_ring : (r : List ℕ) → Ring (Has m) (Next next) r → Ring (Has m) Edge r
   next_ring = ring_moves (Has m) (Next next) Edge next_steps
 
-  pub next_in : (answer : Round) → RingIn (Has m) (Next next) answer → RingIn (Has m) Edge answer
+  pub next_in : (answer : Option Round) → RingIn (Has m) (Next next) answer → RingIn (Has m) Edge answer
   next_in = in_moves (Has m) (Next next) Edge next_steps next_none

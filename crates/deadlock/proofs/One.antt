@@ -1,9 +1,10 @@
 -- Each promise fixes its result: two results that both meet it are equal.
 use mathlib.Core.Path.{◌≡◌, refl, sym, ap, ◌∙◌, subst}
-use mathlib.Core.Bool.{Bool, false, true≢false}
+use mathlib.Core.Bool.{Bool, true, false, true≢false}
 use mathlib.Core.Logic.{◌↔◌}
 use mathlib.Core.List.{List, [], ◌++◌}
 use Prim.Native.Nat.{ℕ, zero, suc, ◌-◌, ◌<◌}
+use Rattle.std.specs.Prelude.{Option, None, Some}
 use native.Mathlib.Omega.{arith}
 use lib.ListN.{length, replicate}
 use Rattle.sets.proofs.Least.{least_one}
@@ -16,9 +17,8 @@ use Rattle.deadlock.proofs.Rings.{ring_one}
 pub named_one : (Edge : ℕ → ℕ → Type 0) (a b : ℕ) → NamedBy Edge a → NamedBy Edge b → a ≡ b
 named_one Edge a b x y = same_members (EndlessWalk Edge) a b x.iff y.iff
 
-answers : (a b : Bool) (m n : ℕ) (r s : List ℕ) → a ≡ b → m ≡ n → r ≡ s
-    → ◌≡◌ {A = Round} (record { closed = a; length = m; tasks = r }) (record { closed = b; length = n; tasks = s })
-answers a b m n r s p q e = rw (p, q, e) refl
+answers : (m n : ℕ) (r s : List ℕ) → m ≡ n → r ≡ s → ◌≡◌ {A = Round} (record { length = m; tasks = r }) (record { length = n; tasks = s })
+answers m n r s q e = rw (q, e) refl
 
 module _ (Named : ℕ → Type 0) (Edge : ℕ → ℕ → Type 0) where
   -- a walk that goes on does not stop
@@ -43,19 +43,23 @@ module _ (Named : ℕ → Type 0) (Edge : ℕ → ℕ → Type 0) where
   comes_one _ _ _ s (stops x) (round y) = absurd (never_both s y x)
   comes_one _ _ _ _ (stops x) (stops y) = (refl, refl)
 
-  pub ring_in_one : (a b : Round) → RingIn Named Edge a → RingIn Named Edge b → a ≡ b
-  ring_in_one a b x y =
-      let c = comes_one a.closed b.closed x.ring y.ring x.comes y.comes in
-      answers a.closed b.closed a.length b.length a.tasks b.tasks
-      c.0
+  pub ring_in_one : (a b : Option Round) → RingIn Named Edge a → RingIn Named Edge b → a ≡ b
+  ring_in_one None None x y = refl
+  ring_in_one None (Some b) x y = absurd (true≢false (comes_one true false y.ring [] y.comes x).0)
+  ring_in_one (Some a) None x y = absurd (true≢false (comes_one true false x.ring [] x.comes y).0)
+  ring_in_one (Some a) (Some b) x y =
+      let c = comes_one true true x.ring y.ring x.comes y.comes in
+      ap Some
+      (answers a.length b.length a.tasks b.tasks
       (x.long ∙ ap length c.1 ∙ sym y.long)
-      (x.places ∙ ap (λ l. l ++ replicate (32 - length l) 255) c.1 ∙ sym y.places)
+      (x.places ∙ ap (λ l. l ++ replicate (32 - length l) 255) c.1 ∙ sym y.places))
 
-  -- the walk is not closed exactly where it stops
-  pub stops_iff : (answer : Round) → RingIn Named Edge answer → (answer.closed ≡ false) ↔ DeadEnd Named Edge
-  stops_iff answer x = (λ e. into answer.closed x.ring x.comes e, λ d. (comes_one answer.closed false x.ring [] x.comes (stops d)).0)
+  -- there is none exactly where the walk stops
+  pub stops_iff : (answer : Option Round) → RingIn Named Edge answer → (answer ≡ None) ↔ DeadEnd Named Edge
+  stops_iff None x = (λ e. into false [] x refl, λ d. refl)
     where
       into : (b : Bool) (r : List ℕ) → Comes Named Edge b r → b ≡ false → DeadEnd Named Edge
       into _ _ (nobody n) e = absurd (true≢false e)
       into _ _ (round y) e = absurd (true≢false e)
       into _ _ (stops d) e = d
+  stops_iff (Some a) x = (λ e. absurd (cc), λ d. absurd (true≢false (comes_one true false x.ring [] x.comes (stops d)).0))

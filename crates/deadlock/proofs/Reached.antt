@@ -1,20 +1,19 @@
 -- The code's walk from the lowest named task comes to the ring, or to the place where it stops.
 use mathlib.Core.Path.{◌≡◌, sym, ap, ◌∙◌, subst}
 use mathlib.Core.Logic.{◌⊎◌, inl, inr}
+use mathlib.Core.Bool.{false}
 use mathlib.Core.List.{List, [], ◌++◌}
 use Prim.Native.Nat.{ℕ, zero, suc, ◌+◌, ◌-◌, ◌^◌, ◌≤◌, ◌<◌}
 use native.Mathlib.Nat.{add-zero}
-use native.Mathlib.Decide.{dec_lt, ℕ_discrete}
+use native.Mathlib.Decide.{dec_lt}
 use native.Mathlib.Omega.{arith}
 use lib.ListN.{length, get_or, replicate}
 use lib.Seq.{ext_get_or}
-use lib.Dec.{eqb}
-use borrow.Author.Tests.{eq-eqb, ne_eqb}
 use Rattle.sets.specs.Set.{Has, size, Least, LowestOf}
-use Rattle.sets.proofs.Members.{has_lt, none_has}
+use Rattle.sets.proofs.Members.{has_lt}
 use Rattle.sets.proofs.Sizes.{size_le}
 use Rattle.deadlock.specs.declared.ring.Round.{Round}
-use Rattle.deadlock.specs.Ring.{RingWalk, Ring, DeadEnd, Comes, nobody, round, stops, RingIn, Next}
+use Rattle.deadlock.specs.Ring.{RingWalk, Ring, DeadEnd, Comes, round, stops, Shown, Next}
 use Rattle.deadlock.specs.Parts.{go_of, low_of, once_of, Filled}
 use Rattle.deadlock.proofs.Rings.{walk_one, repeats, again, ring_low, ring_short}
 use Rattle.deadlock.proofs.Found.{Found, walk_ring}
@@ -190,23 +189,19 @@ module _ (next : List ℕ) (m : ℕ) (fits : m < 2 ^ 32) (s : ℕ) (start : Lowe
               omega (arith, z, r.2);
         }
 
-  pub stops_comes : (steps at : ℕ) → at ≡ place steps → 32 ≤ at → Comes (Has m) (Next next) (eqb m 0) []
-  stops_comes steps at e l = go (ℕ_discrete m 0)
-    where
-      go : Dec (m ≡ 0) → Comes (Has m) (Next next) (eqb m 0) []
-      go (yes z) = rw (eq-eqb m 0 z) (nobody (λ t i. none_has t (rw z at i)))
-      go (no z) = rw (ne_eqb m 0 z) (stops (dead_end (omega arith) steps (omega arith)))
+  pub stops_comes : 0 < m → (steps at : ℕ) → at ≡ place steps → 32 ≤ at → Comes (Has m) (Next next) false []
+  stops_comes p steps at e l = stops (dead_end p steps (omega arith))
 
   -- ---- the code's answer
   pub round_ring : (steps : ℕ) → size m 32 ≤ steps → (at low : ℕ) → at ≡ place steps → at < 32 → low ≡ low_of next m at at steps
-      → (answer : Round) → Filled (once_of next m low low 32) answer → RingIn (Has m) (Next next) answer
+      → (answer : Round) → Filled (once_of next m low low 32) answer → Shown (Has m) (Next next) answer
   unfolding ring_from
   round_ring steps n at low e l q answer f =
       let z : low ≡ low_of next m (place steps) (place steps) steps = q ∙ ap (λ t. low_of next m t t steps) e in
       let i : once_of next m low low 32 ≡ ring_from next m s steps = ap (λ t. once_of next m t t 32) z in
       record {
         ring = ring_from next m s steps;
-        comes = rw f.closed (round (ring_from_lem steps n (omega arith)));
+        comes = round (ring_from_lem steps n (omega arith));
         long = f.long ∙ ap length i;
         places = f.places ∙ ap (λ r. r ++ replicate (32 - length r) 255) i;
       }

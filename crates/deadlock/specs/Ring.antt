@@ -1,5 +1,5 @@
 -- The ring (document 01, 'Stuck', last paragraph), over any named tasks and any edges between them.
-use Rattle.std.specs.Prelude.{◌≡◌, Bool, true, false, List, [], ◌++◌, ℕ, suc, ◌+◌, ◌-◌, ◌<◌, length, get_or, replicate}
+use Rattle.std.specs.Prelude.{◌≡◌, Bool, true, false, Option, None, Some, List, [], ◌++◌, ℕ, suc, ◌+◌, ◌-◌, ◌<◌, length, get_or, replicate}
 use Rattle.sets.specs.Set.{Least}
 use Rattle.deadlock.specs.declared.ring.Round.{Round}
 
@@ -39,11 +39,16 @@ module _ (Named : ℕ → Type 0) (Edge : ℕ → ℕ → Type 0) where
     stops : DeadEnd → Comes false []
 
   -- "the ring's length; the ring's task numbers, filled up to 32 places with 255"
-  pub record RingIn (answer : Round) : Type 0 where
+  pub record Shown (answer : Round) : Type 0 where
     pub ring : List ℕ
-    pub comes : Comes answer.closed ring
+    pub comes : Comes true ring
     pub long : answer.length ≡ length ring
     pub places : answer.tasks ≡ ring ++ replicate (32 - length ring) 255
+
+  -- the ring of the walk, or none where it does not always find a task to step to
+  abbrev pub RingIn : Option Round → Type 0
+  RingIn None = Comes false []
+  RingIn (Some answer) = Shown answer
 
 -- edges kept as one number for each of 32 tasks: from t to the number at place t
 abbrev pub Next : List ℕ → ℕ → ℕ → Type 0

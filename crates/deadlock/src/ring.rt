@@ -3,37 +3,32 @@ ghost use Rattle.sets.specs.Set.{Has};
 ghost use Rattle.deadlock.specs.Ring.{Next, RingIn};
 ghost use Rattle.deadlock.specs.Parts.{step_of, go_of, low_of, once_of, Filled};
 
-// What the ring walk comes to: whether it always found a task to step to, and the ring in 32 places filled up with 255.
+// A ring: how many tasks it has, and these in 32 places filled up with 255.
 #[derive(Clone, Copy)]
 pub struct Round {
-    pub closed: bool,
     pub length: u32,
     pub tasks: [u8; 32],
 }
 
-// The ring of the walk from the lowest named task, where from task t it steps to next[t]. A number there that is no named task's is "no
-// named task to step to": where the walk meets one it is not closed. The ring takes as many steps as there are named tasks, which is
-// the customer's own bound: by then the walk is in the part that repeats, or has stopped.
-pub fn ring(next: [u8; 32], named: u32) -> Round
+// The ring of the walk from the lowest named task, where from task t it steps to next[t]; none where the walk stops. A number there that is no named
+// task's is "no named task to step to". The ring takes as many steps as there are named tasks, which is the customer's own bound: by then the walk is in
+// the part that repeats, or has stopped.
+pub fn ring(next: [u8; 32], named: u32) -> Option<Round>
     ensures { RingIn (Has named) (Next next) result }
 {
+    if named == 0 {
+        return Some(Round {
+            length: 0,
+            tasks: [255u8; 32],
+        });
+    }
     let steps = sets::size(named);
     let late = far(next, named, sets::lowest(named), steps);
     if late < 32 {
-        once(next, named, lowest_on(next, named, late, steps))
+        Some(once(next, named, lowest_on(next, named, late, steps)))
     } else {
-        Round {
-            closed: named == 0,
-            length: 0,
-            tasks: [255u8; 32],
-        }
+        None
     }
-}
-
-fn widen(x: u8) -> usize
-    ensures { result ≡ x }
-{
-    x as usize
 }
 
 // The task to step to, or 32.
@@ -41,7 +36,7 @@ fn after(next: [u8; 32], named: u32, task: usize) -> usize
     ensures { result ≡ step_of next named task }
 {
     if task < 32 {
-        let to = widen(next[task]);
+        let to = usize::from(next[task]);
         if sets::has(named, to) { to } else { 32 }
     } else {
         32
@@ -59,12 +54,6 @@ fn far(next: [u8; 32], named: u32, from: usize, steps: u32) -> usize
     task
 }
 
-fn lesser(a: usize, b: usize) -> usize
-    ensures { result ≡ min a b }
-{
-    if a < b { a } else { b }
-}
-
 // The lowest on so many steps more; with as many as there are named tasks, that of the whole part that repeats.
 fn lowest_on(next: [u8; 32], named: u32, from: usize, steps: u32) -> usize
     ensures { result ≡ low_of next named from from steps }
@@ -73,7 +62,7 @@ fn lowest_on(next: [u8; 32], named: u32, from: usize, steps: u32) -> usize
     let mut low = from;
     for more in 0..steps {
         task = after(next, named, task);
-        low = lesser(task, low);
+        low = task.min(low);
     }
     low
 }
@@ -85,22 +74,15 @@ fn once(next: [u8; 32], named: u32, low: usize) -> Round
 {
     let mut tasks = [255u8; 32];
     let mut task = low;
-    let mut i: usize = 0;
-    while i < 32 {
+    for i in 0..32usize {
         tasks[i] = task as u8;
-        i += 1;
         task = after(next, named, task);
         if task == low {
             return Round {
-                closed: true,
-                length: i as u32,
+                length: i as u32 + 1,
                 tasks,
             };
         }
     }
-    Round {
-        closed: true,
-        length: 32,
-        tasks,
-    }
+    Round { length: 32, tasks }
 }

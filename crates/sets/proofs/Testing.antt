@@ -1,14 +1,16 @@
 -- A set gone through by a test, lowest first: what is known on the way, at the start, after a step, at the end.
 use mathlib.Core.Path.{◌≡◌, refl, sym, ap, subst, ◌∙◌}
-use mathlib.Core.Bool.{Bool, true, false, cond}
+use mathlib.Core.Bool.{Bool, true, false, cond, not}
 use mathlib.Core.Logic.{◌↔◌, ◌⊎◌, inl, inr}
 use Prim.Native.Nat.{ℕ, ◌^◌, ◌<◌, ◌≤◌}
 use Rattle.std.specs.Prelude.{Option, None, Some}
 use native.Mathlib.Decide.{dec_lt, ℕ_discrete}
 use native.Mathlib.Omega.{arith}
+use lib.Dec.{eqb}
+use borrow.Author.Tests.{eq-eqb, ne_eqb}
 use Rattle.sets.specs.Set.{Has, Least}
 use Rattle.sets.specs.Tested.{First, Those}
-use Rattle.sets.proofs.Members.{Kept, Taken, none_has}
+use Rattle.sets.proofs.Members.{Kept, Taken, none_has, some_has}
 
 module _ (Said : ℕ → Bool → Type 0) where
   -- of the set those are found who are left to look at, and those of whom the test said yes
@@ -93,3 +95,27 @@ module _ (P : ℕ → Type 0) {In : ℕ → Type 0} {Said : ℕ → Bool → Typ
 -- a test that gives the value of f means that the value is true
 pub gives : {b y : Bool} → b ≡ y → (b ≡ true) ↔ (y ≡ true)
 gives e = (λ p. sym e ∙ p, λ p. e ∙ p)
+
+-- ---- a test whether two sets have somebody in common
+module _ (a b m : ℕ) (fits : m < 2 ^ 32) (common : (u : ℕ) → Has m u ↔ (Has a u × Has b u)) where
+  pub meets : (not (eqb m 0) ≡ true) ↔ ((u : ℕ) × Has a u × Has b u)
+  meets = (into (ℕ_discrete m 0), from (ℕ_discrete m 0))
+    where
+      into : Dec (m ≡ 0) → not (eqb m 0) ≡ true → (u : ℕ) × Has a u × Has b u
+      into (yes z) e = absurd (never (rw (eq-eqb m 0 z) at e))
+      into (no n) e = let u = some_has 32 m fits (omega arith) in let q = (common u.0).0 u.1 in (u.0, q.0, q.1)
+
+      from : Dec (m ≡ 0) → (u : ℕ) × Has a u × Has b u → not (eqb m 0) ≡ true
+      from (yes z) u = absurd (none_has u.0 (rw z at ((common u.0).1 (u.1, u.2))))
+      from (no n) u = rw (ne_eqb m 0 n) refl
+
+  pub apart : (eqb m 0 ≡ true) ↔ ((u : ℕ) → Has a u → Has b u → ⊥)
+  apart = (into (ℕ_discrete m 0), from (ℕ_discrete m 0))
+    where
+      into : Dec (m ≡ 0) → eqb m 0 ≡ true → (u : ℕ) → Has a u → Has b u → ⊥
+      into (yes z) e = λ u h i. none_has u (rw z at ((common u).1 (h, i)))
+      into (no n) e = absurd (never (rw (ne_eqb m 0 n) at e))
+
+      from : Dec (m ≡ 0) → ((u : ℕ) → Has a u → Has b u → ⊥) → eqb m 0 ≡ true
+      from (yes z) none = eq-eqb m 0 z
+      from (no n) none = let u = some_has 32 m fits (omega arith) in let q = (common u.0).0 u.1 in absurd (none u.0 q.0 q.1)

@@ -1,10 +1,12 @@
--- The invariant: everybody with an endless walk is left, only those of `among` are, and all below `task` that are left have an edge into what is left.
-use Prim.Native.Nat.{◌+◌, ◌-◌, ◌*◌}
-use Rattle.deadlock.proofs.Clearing.{RowClearing}
+-- The invariant: everybody with an endless walk is left, and only those of `among` are.
+use Prim.Native.Nat.{◌^◌, ◌<◌}
+use Rattle.sets.proofs.Members.{Within}
+use Rattle.deadlock.specs.Walk.{Row}
+use Rattle.deadlock.proofs.Clearing.{Covers}
 use Rattle.deadlock.proofs.elimination.named.Given as goal
 
 abbrev pub invariant-loop-task : goal.invariant-loop-task
-invariant-loop-task l = RowClearing l.among l.rows l.left l.task
+invariant-loop-task l = (l.left < 2 ^ 32) × Within l.left l.among × Covers (Row l.among l.rows) l.left
 
 abbrev pub decreases-loop-task : goal.decreases-loop-task
-decreases-loop-task l = l.left * 33 + (32 - l.task)
+decreases-loop-task l = l.left

@@ -6,13 +6,13 @@ use Rattle.deadlock.proofs.ring.after.Goals as goal
 
 pub returns-then-has : goal.returns-then-has
 returns-then-has c =
-    let to = c.widen-to.ensures in
+    let to = c.from-to.ensures in
     let h = subst (Has c.args.named) to (c.has.ensures.0 c.if-has.true) in
     to ∙ sym (step_in c.args.next c.args.named c.args.task c.if-task-lt32.true h)
 
 pub returns-else-has : goal.returns-else-has
 returns-else-has c =
-    let to = c.widen-to.ensures in
+    let to = c.from-to.ensures in
     sym (step_out c.args.next c.args.named c.args.task
     (λ h. true≢false (sym (c.has.ensures.1 (subst (Has c.args.named) (sym to) h)) ∙ c.if-has.false)))
 

@@ -6,6 +6,3 @@ use Rattle.deadlock.proofs.ring.far.Given as goal
 
 abbrev pub invariant-loop-step : goal.invariant-loop-step
 invariant-loop-step l = go_of l.next l.named l.from l.steps ≡ go_of l.next l.named l.task (l.steps - l.step)
-
-abbrev pub decreases-loop-step : goal.decreases-loop-step
-decreases-loop-step l = l.steps - l.step

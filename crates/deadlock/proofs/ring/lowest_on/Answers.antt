@@ -9,7 +9,7 @@ loop-more-preserved c =
     let s = c.args in
     let l = c.loop-more in
     let h : l.more < s.steps = omega arith in
-    l.invariant ∙ low_turn s.next s.named _ l.task l.low l.more _ _ h c.after-task.ensures c.lesser-low.ensures
+    l.invariant ∙ low_turn s.next s.named _ l.task l.low l.more _ _ h c.after-task.ensures c.min-low.ensures
 
 pub returns : goal.returns
 returns c =

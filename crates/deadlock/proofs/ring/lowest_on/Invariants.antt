@@ -6,6 +6,3 @@ use Rattle.deadlock.proofs.ring.lowest_on.Given as goal
 
 abbrev pub invariant-loop-more : goal.invariant-loop-more
 invariant-loop-more l = low_of l.next l.named l.from l.from l.steps ≡ low_of l.next l.named l.task l.low (l.steps - l.more)
-
-abbrev pub decreases-loop-more : goal.decreases-loop-more
-decreases-loop-more l = l.steps - l.more

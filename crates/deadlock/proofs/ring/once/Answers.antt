@@ -21,5 +21,5 @@ loop-i-preserved c =
 
 pub returns : goal.returns
 returns c =
-    let e : c.loop-i.i ≡ 32 = (let z = c.loop-i.invariant.near in omega arith) in
+    let e : c.loop-i.i ≡ 32 = omega arith in
     turn_all _ _ _ _ _ (rw e at c.loop-i.invariant)

@@ -3,6 +3,8 @@ use mathlib.Core.List.{[]}
 use mathlib.Core.Path.{refl}
 use Prim.Native.Nat.{◌≤◌, ◌<◌}
 use native.Mathlib.Omega.{arith}
+use Rattle.sets.proofs.Members.{none_has}
+use Rattle.deadlock.specs.Ring.{nobody}
 use Rattle.deadlock.proofs.Stepping.{low_le}
 use Rattle.deadlock.proofs.Reached.{stops_comes, round_ring}
 use Rattle.deadlock.proofs.ring.ring.Goals as goal
@@ -21,9 +23,9 @@ returns-then-late-lt32 c =
 
 pub returns-else-late-lt32 : goal.returns-else-late-lt32
 returns-else-late-lt32 c =
-    record {
-      ring = [];
-      comes = stops_comes c.args.next c.args.named c.ranges.named.fits _ c.lowest.ensures _ _ c.far-late.ensures (omega arith);
-      long = refl;
-      places = refl;
-    }
+    let p : 0 < c.args.named = omega (arith, c.if-named-eq0.false) in
+    stops_comes c.args.next c.args.named c.ranges.named.fits _ c.lowest.ensures p _ _ c.far-late.ensures (omega arith)
+
+pub returns-then-named-eq0 : goal.returns-then-named-eq0
+returns-then-named-eq0 c =
+    record { ring = []; comes = nobody (λ t h. none_has t (rw c.if-named-eq0.true at h)); long = refl; places = refl }
