@@ -10,7 +10,6 @@ use lib.ListN.{get_or, length, replicate, set, length-set}
 use lib.Seq.{get_or-set_same, get_or-set_other}
 use Rattle.sets.specs.Set.{Has, Least}
 use Rattle.sets.proofs.Members.{Taken, Within, has_dec, none_has, within_lt}
-use Rattle.sets.proofs.Loops.{Sifted, sift_done}
 use Rattle.states.specs.Parts.{event_of}
 use Rattle.states.specs.State.{free_task, is_blocked}
 use Rattle.states.specs.Waiting.{Awaited}
@@ -38,7 +37,7 @@ pub record Chosen (t : Table) (todo k : ℕ) (e : Awaited) (alike : ℕ) : Type 
   pub near : k < 32
   pub lowest : Least (Has todo) k
   pub event : e ≡ event_of (get_or t.tasks k free_task).state
-  pub await : Sifted (λ u. BlockedOn t u e) todo alike 0
+  pub await : (u : ℕ) → Has alike u ↔ (Has todo u × BlockedOn t u e)
 
 module _ (t : Table) (blocked : ℕ) (b : BlockedSet t blocked) where
   is_in : (k : ℕ) (e : Awaited) → BlockedOn t k e → Has blocked k
@@ -66,7 +65,7 @@ module _ (t : Table) (blocked : ℕ) (b : BlockedSet t blocked) where
         subst (BlockedOn t k) (sym (event_read t k s.near e s.event ∙ event_is (state_at t k) w.0 w.1)) w.1
 
     waits : (u : ℕ) → Has alike u ↔ (Has todo u × BlockedOn t u e)
-    waits = sift_done _ todo alike s.await
+    waits = s.await
 
     like : (u : ℕ) → BlockedOn t u e → Alike t k u
     like u w = record { event = e; one = awaits; other = w }
@@ -131,8 +130,8 @@ module _ (t : Table) (blocked : ℕ) (b : BlockedSet t blocked) where
       row j (yes q) = subst RowAt (sym q) own
       row j (no n) = other j n
 
-      sorted : Sorted t blocked next rest (set waiters k alike)
-      sorted = record {
+      pub sort_more : Sorted t blocked next rest (set waiters k alike)
+      sort_more = record {
         fits = f;
         long = length-set waiters k alike ∙ g.long;
         within = λ u h. g.within u ((gone u).0 h).0;
@@ -150,12 +149,6 @@ module _ (t : Table) (blocked : ℕ) (b : BlockedSet t blocked) where
 
     pub sort_less : (rest : ℕ) → ((u : ℕ) → Has rest u ↔ (Has todo u × (Has alike u → ⊥))) → rest < 2 ^ 32 → rest < todo
     sort_less rest gone f = within_lt 32 rest todo k f (λ u h. ((gone u).0 h).0) s.lowest.holds (λ h. ((gone k).0 h).1 mine)
-
-    -- the row that is kept is that of those who await the event, and so is the set from which the task is taken
-    pub sort_more : (row they others next rest : ℕ) → row ≡ alike → they ≡ alike → Taken they k others
-        → ((u : ℕ) → Has next u ↔ (Has first u × (Has others u → ⊥))) → ((u : ℕ) → Has rest u ↔ (Has todo u × (Has alike u → ⊥)))
-        → rest < 2 ^ 32 → Sorted t blocked next rest (set waiters k row)
-    sort_more row they others next rest p q taken kept gone f = rw p (sorted others next rest (rw q at taken) kept gone f)
 
   pub sort_done : (first : ℕ) (waiters : List ℕ) → Sorted t blocked first 0 waiters
       → EventsOf t (record { blocked = blocked; first = first; waiters = waiters })

@@ -6,21 +6,13 @@ use Prim.Native.Nat.{ℕ, ◌+◌, ◌*◌, ◌^◌, ◌≤◌, ◌<◌}
 use native.Mathlib.Decide.{ℕ_discrete}
 use native.Mathlib.Omega.{arith}
 use lib.ListN.{get_or}
-use Rattle.sets.specs.Set.{Has, LowestOf, size}
-use Rattle.sets.proofs.Members.{Taken, Within, has_pos, none_has, some_has}
-use Rattle.sets.proofs.Loops.{lowest_has, lowest_lt, lowest_less}
+use Rattle.sets.specs.Set.{Has, size}
+use Rattle.sets.proofs.Members.{Taken, Within, none_has}
 use Rattle.sets.proofs.Sizes.{size_le, size_pos, size_taken}
 use Rattle.density.specs.HowMany.{Pairs}
 use Rattle.density.specs.Parts.{AwaitedBy, Counts, JoinedBy}
 use Rattle.density.specs.declared.events.Events.{Events}
 use Rattle.density.proofs.Many.{many_none, many_along, many_set, many_row}
-
--- two sets have somebody in common exactly where what they have in common is not 0
-pub meets : (a b m : ℕ) → m < 2 ^ 32 → ((u : ℕ) → Has m u ↔ (Has a u × Has b u)) → (0 < m) ↔ ((u : ℕ) × Has a u × Has b u)
-meets a b m f iff = (
-  λ p. let u = some_has 32 m f p in let q = (iff u.0).0 u.1 in (u.0, q.0, q.1),
-  λ u. has_pos m u.0 ((iff u.0).1 (u.1, u.2)),
-)
 
 -- the events that the impeders of k's event await
 pub joined : (events : Events) (impeders : List ℕ) (k row : ℕ) → AwaitedBy events (get_or impeders k 0) row
@@ -35,40 +27,24 @@ module _ (set : ℕ) (E : ℕ → ℕ → Type 0) where
   Gone left k u = Has set k × (Has left k → ⊥) × E k u
 
   pub record Tallied (left edges : ℕ) : Type 0 where
-    pub fits : left < 2 ^ 32
     pub within : Within left set
     pub room : edges + 32 * size left 32 ≤ 1024
     pub many : Pairs (Gone left) edges
 
-  pub tally_start : (left : ℕ) → left ≡ set → set < 2 ^ 32 → Tallied left 0
-  tally_start left e f = rw e (record {
-    fits = f;
-    within = λ k h. h;
-    room = omega (arith, size_le 32 set);
-    many = many_none (0, 0) (λ p h. h.1 h.0);
-  })
+  pub tally_start : Tallied set 0
+  tally_start = record { within = λ k h. h; room = omega (arith, size_le 32 set); many = many_none (0, 0) (λ p h. h.1 h.0) }
 
-  -- the lowest of those who are left: there is room for its row, and then it is counted
-  module _ (left edges k : ℕ) (g : Tallied left edges) (some : left ≡ 0 → ⊥) (low : LowestOf left k) where
-    here : Has left k
-    here = lowest_has g.fits some low
-
-    pub tally_near : k < 32
-    tally_near = lowest_lt g.fits some low
-
+  -- one of those who are left: there is room for its row, and then it is counted
+  module _ (left edges k : ℕ) (g : Tallied left edges) (near : k < 32) (here : Has left k) where
     pub tally_room : (row n : ℕ) → n ≡ size row 32 → edges + n ≤ 1024
-    tally_room row n e = let z = g.room in omega (arith, size_le 32 row, size_pos 32 left k tally_near here)
+    tally_room row n e = let z = g.room in omega (arith, size_le 32 row, size_pos 32 left k near here)
 
-    module _ (rest : ℕ) (taken : Taken left k rest) (f : rest < 2 ^ 32) where
-      pub tally_less : rest < left
-      tally_less = lowest_less g.fits some low rest f taken
-
+    module _ (rest : ℕ) (taken : Taken left k rest) where
       pub tally_more : (row m n more : ℕ) → n ≡ size m 32 → m ≡ row → more ≡ edges + n → row < 2 ^ 32 → ((u : ℕ) → Has row u ↔ E k u)
           → Tallied rest more
       tally_more row m n more e same s fits iff = rw s (record {
-        fits = f;
         within = λ j r. g.within j ((taken j).0 r).0;
-        room = let z = g.room in omega (arith, size_taken left k rest taken 32 tally_near here, size_le 32 m);
+        room = let z = g.room in omega (arith, size_taken left k rest taken 32 near here, size_le 32 m);
         many =
             many_along (λ p. (into p, from p (ℕ_discrete p.0 k)))
             (many_row k g.many (many_along iff (rw (e, same) (many_set 32 row fits))) (λ u x. x.1 here));

@@ -6,7 +6,7 @@ use mathlib.Core.Logic.{◌↔◌, ⊎_elim}
 use Prim.Native.Nat.{ℕ, ◌^◌, ◌<◌}
 use lib.ListN.{get_or}
 use Rattle.sets.specs.Set.{Has}
-use Rattle.sets.proofs.Members.{Taken, Within, has_dec, none_has, taken_out}
+use Rattle.sets.proofs.Members.{Taken, Within, has_dec, taken_out}
 use Rattle.states.specs.Parts.{event_of, awaits_of}
 use Rattle.states.specs.State.{free_task}
 use Rattle.states.specs.Waiting.{Awaited}
@@ -28,21 +28,18 @@ module _ (tasks : List Task) (P : Table → ℕ → Type 0) where
     pub within : Within left among
     pub seen : (t : Table) → t.tasks ≡ tasks → (k : ℕ) → Has among k → (Has left k → ⊥) → P t k
 
-  pub look_start : (among left : ℕ) → left ≡ among → among < 2 ^ 32 → Looked among left
-  look_start among left e f = rw e (record { fits = f; within = λ k h. h; seen = λ t e k h n. absurd (n h) })
+  pub look_start : (among : ℕ) → among < 2 ^ 32 → Looked among among
+  look_start among f = record { fits = f; within = λ k h. h; seen = λ t e k h n. absurd (n h) }
 
-  pub look_more : {among left k rest next : ℕ} → Looked among left → Taken left k rest → rest < 2 ^ 32 → next ≡ rest
-      → ((t : Table) → t.tasks ≡ tasks → P t k) → Looked among next
-  look_more {among} {left} {k} {rest} g taken f same p = rw same (record {
+  pub look_more : {among left k rest : ℕ} → Looked among left → Taken left k rest → rest < 2 ^ 32 → ((t : Table) → t.tasks ≡ tasks → P t k)
+      → Looked among rest
+  look_more {among} {left} {k} {rest} g taken f p = record {
     fits = f;
     within = λ u h. g.within u ((taken u).0 h).0;
     seen = λ t e u h n. ⊎_elim (λ q. subst (P t) (sym q) (p t e)) (g.seen t e u h) (taken_out left k rest u taken n);
-  })
+  }
 
--- ---- the loop inside: nobody who was looked at awaits what k awaits; the loop outside: who was looked at awaits its event alone
-abbrev pub Unlike : ℕ → Table → ℕ → Type 0
-Unlike k t u = Alike t k u → ⊥
-
+-- who was looked at awaits its event alone
 abbrev pub Alone : ℕ → Table → ℕ → Type 0
 Alone among t k = (u : ℕ) → Has among u → Alike t k u → k ≡ u
 
@@ -58,20 +55,22 @@ alike_read t tasks q k u l m e is a b x y =
           (mine.1 (subst (BlockedOn t k) same p.one), theirs.1 (subst (BlockedOn t u) same p.other)),
     )
 
-module _ {tasks : List Task} {among todo k rest : ℕ} (g : Looked tasks (Alone among) among todo) (here : Has todo k) (taken : Taken todo k rest) where
-  -- nobody who is left awaits what k awaits, nor did anybody before
-  pub alone : Looked tasks (Unlike k) rest 0 → (t : Table) → t.tasks ≡ tasks → Alone among t k
-  alone x t e u h a = go (has_dec rest u)
-    where
-      go : Dec (Has rest u) → k ≡ u
-      go (yes r) = absurd (x.seen t e u r (none_has u) a)
-      go (no n) = sym (⊎_elim (λ q. q) (λ out. g.seen t e u h out k (g.within k here) (alike_back a)) (taken_out todo k rest u taken n))
+module _ {tasks : List Task} {among todo k : ℕ} (rest : ℕ) (g : Looked tasks (Alone among) among todo) (here : Has todo k) (taken : Taken todo k rest) where
+  module _ (t : Table) (e : t.tasks ≡ tasks) where
+    -- nobody who is left awaits what k awaits, nor did anybody before
+    pub alone : ((u : ℕ) → Has rest u → Alike t k u → ⊥) → Alone among t k
+    alone none u h a = go (has_dec rest u)
+      where
+        go : Dec (Has rest u) → k ≡ u
+        go (yes r) = absurd (none u r a)
+        go (no n) = sym (⊎_elim (λ q. q) (λ out. g.seen t e u h out k (g.within k here) (alike_back a)) (taken_out todo k rest u taken n))
 
-  pub found : {unseen u : ℕ} (t : Table) → Looked tasks (Unlike k) rest unseen → Has unseen u → Alike t k u → AwaitedTwice t among
-  found {unseen} {u} t x h a =
-      let r = (taken u).0 (x.within u h) in
-      record { one = k; other = u; inside = g.within k here; inside_too = g.within u r.0; apart = λ q. r.1 (sym q); alike = a }
+    pub found : {u : ℕ} → Has rest u → Alike t k u → AwaitedTwice t among
+    found {u} h a =
+        let r = (taken u).0 h in
+        record { one = k; other = u; inside = g.within k here; inside_too = g.within u r.0; apart = λ q. r.1 (sym q); alike = a }
 
 -- where all were looked at, there are no such two
-pub none_found : {tasks : List Task} {among : ℕ} (t : Table) → t.tasks ≡ tasks → Looked tasks (Alone among) among 0 → AwaitedTwice t among → ⊥
-none_found t e g d = d.apart (g.seen t e d.one d.inside (none_has d.one) d.other d.inside_too d.alike)
+pub none_twice : {tasks : List Task} {among left : ℕ} (t : Table) → t.tasks ≡ tasks → ((k : ℕ) → Has left k → ⊥) → Looked tasks (Alone among) among left
+    → AwaitedTwice t among → ⊥
+none_twice t e none g d = d.apart (g.seen t e d.one d.inside (none d.one) d.other d.inside_too d.alike)

@@ -21,8 +21,8 @@ pub fn density_of(table: Table) -> Density
     let among = events.blocked;
     let first = events.first;
     let impeders = table.edges(table.seats(among));
-    let blocked = sets::size(among) as u64;
-    let awaited = sets::size(first) as u64;
+    let blocked = u64::from(sets::size(among));
+    let awaited = u64::from(sets::size(first));
     let task_edges = edges_from(among, impeders);
     let between_events = event_edges(events, impeders);
     let task_event_edges = blocked + edges_from(first, impeders);

@@ -1,4 +1,6 @@
-ghost use Rattle.std.specs.Prelude.{◌≡◌, true, ◌↔◌};
+ghost use Rattle.std.specs.Prelude.{◌≡◌, true, ◌↔◌, ◌<◌, get_or};
+ghost use Rattle.states.specs.Parts.{awaits_of};
+ghost use Rattle.states.specs.State.{free_task};
 ghost use Rattle.density.specs.Parts.{AwaitedTwice, EventsOf};
 
 use hall::table::Table;
@@ -20,18 +22,15 @@ pub(crate) fn events_of(table: Table) -> Events
     let mut first = blocked;
     let mut waiters = [0u32; 32];
     let mut todo = blocked;
-    while todo != 0 {
-        let t = sets::lowest(todo);
-        let task = table.tasks[t];
-        let event = event_of(task);
-        let mut alike = todo;
-        let mut unseen = todo;
-        while unseen != 0 {
-            let u = sets::lowest(unseen);
-            let other = table.tasks[u];
-            alike = sets::kept(alike, u, awaits(other, event));
-            unseen = sets::take(unseen, u);
-        }
+    while let Some(t) = sets::each(todo).next() {
+        let event = event_of(table.tasks[t]);
+        let alike = sets::those(
+            todo,
+            |u|
+                requires { u < 32 }
+                ensures { result ≡ awaits_of (get_or table.tasks u free_task).state event }
+            { awaits(table.tasks[u], event) },
+        );
         waiters[t] = alike;
         first = sets::less(first, sets::take(alike, t));
         todo = sets::less(todo, alike);
@@ -47,21 +46,22 @@ pub(crate) fn events_of(table: Table) -> Events
 pub fn awaited_twice(tasks: [Task; 32], among: u32) -> bool
     ensures { (t : Table) → t.tasks ≡ tasks → (result ≡ true) ↔ AwaitedTwice t among }
 {
-    let mut todo = among;
-    while todo != 0 {
-        let t = sets::lowest(todo);
+    let mut later = among;
+    for t in sets::each(among) {
         let task = tasks[t];
         let event = event_of(task);
-        todo = sets::rest(todo);
-        let mut unseen = todo;
-        while unseen != 0 {
-            let u = sets::lowest(unseen);
-            let other = tasks[u];
-            // Both are asked: who awaits nothing is given an event of no phaser, which another may await where the table is not sound.
-            if awaits(task, event) & awaits(other, event) {
-                return true;
-            }
-            unseen = sets::rest(unseen);
+        later = sets::take(later, t);
+        // Both are asked: who awaits nothing is given an event of no phaser, which another may await where the table is not sound.
+        let other = sets::first(
+            later,
+            |u|
+                requires { u < 32 }
+                ensures { (result ≡ true)
+                    ↔ ((awaits_of task.state event ≡ true) × (awaits_of (get_or tasks u free_task).state event ≡ true)) }
+            { awaits(task, event) && awaits(tasks[u], event) },
+        );
+        if other.is_some() {
+            return true;
         }
     }
     false

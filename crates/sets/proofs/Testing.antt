@@ -1,9 +1,10 @@
 -- A set gone through by a test, lowest first: what is known on the way, at the start, after a step, at the end.
 use mathlib.Core.Path.{◌≡◌, refl, sym, ap, subst, ◌∙◌}
 use mathlib.Core.Bool.{Bool, true, false, cond, not}
-use mathlib.Core.Logic.{◌↔◌, ◌⊎◌, inl, inr}
+use mathlib.Core.Logic.{◌↔◌}
 use Prim.Native.Nat.{ℕ, ◌^◌, ◌<◌, ◌≤◌}
 use Rattle.std.specs.Prelude.{Option, None, Some}
+use Rattle.std.specs.Option.{is_some}
 use native.Mathlib.Decide.{dec_lt, ℕ_discrete}
 use native.Mathlib.Omega.{arith}
 use lib.Dec.{eqb}
@@ -91,6 +92,15 @@ module _ (P : ℕ → Type 0) {In : ℕ → Type 0} {Said : ℕ → Bool → Typ
 
   pub first_none : First In Said None → (k : ℕ) → In k → P k → ⊥
   first_none found k h p = never ((means k false h (found k h)).1 p)
+
+  -- where the code asks only whether there is one
+  pub some_found : (r : Option ℕ) → First In Said r → true ≡ is_some r → (t : ℕ) × In t × P t
+  some_found None found e = absurd (never (sym e))
+  some_found (Some t) found e = let low = first_some found in (t, low.holds.0, low.holds.1)
+
+  pub none_found : (r : Option ℕ) → First In Said r → false ≡ is_some r → (k : ℕ) → In k → P k → ⊥
+  none_found None found e = first_none found
+  none_found (Some t) found e = absurd (never e)
 
 -- a test that gives the value of f means that the value is true
 pub gives : {b y : Bool} → b ≡ y → (b ≡ true) ↔ (y ≡ true)

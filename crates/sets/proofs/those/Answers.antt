@@ -1,6 +1,3 @@
-use mathlib.Core.Path.{◌∙◌, ap}
-use native.Mathlib.Omega.{arith}
-use borrow.Author.Rules.{rules}
 use Rattle.sets.proofs.Testing.{test_start, test_more, test_done}
 use Rattle.sets.proofs.those.Goals as goal
 

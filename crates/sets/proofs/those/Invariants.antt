@@ -1,6 +1,4 @@
 -- The invariant: the set is gone through by the test as far as `Testing` says.
-use mathlib.Core.Path.{◌≡◌}
-use Prim.Native.Nat.{ℕ, ◌^◌, ◌<◌}
 use Rattle.sets.proofs.Testing.{Testing}
 use Rattle.sets.proofs.those.Given as goal
 

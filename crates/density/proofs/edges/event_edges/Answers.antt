@@ -1,31 +1,16 @@
-use mathlib.Core.Path.{◌∙◌}
-use Prim.Native.Nat.{◌^◌, ◌<◌}
-use native.Mathlib.Omega.{arith}
-use borrow.Author.Rules.{rules}
-use Rattle.density.proofs.Tallied.{tally_start, tally_near, tally_less, tally_more, joined}
-use Rattle.density.proofs.edges.event_edges.Goals.{After-lowest-t}
+use mathlib.Core.Path.{refl, ◌∙◌}
+use Rattle.density.proofs.Tallied.{tally_start, tally_more, tally_done, joined}
 use Rattle.density.proofs.edges.event_edges.Goals as goal
 
-pub loop-left-init : goal.loop-left-init
-loop-left-init c = let f : c.args.events.first < 2 ^ 32 = search rules in tally_start _ _ _ (omega arith) f
+pub loop-t-init : goal.loop-t-init
+loop-t-init c = rw (c.into_iter-t-iterator.ensures.into_iter_gives, c.each-t-items.ensures) (tt, tt, tally_start _ _)
 
--- the task that stands for the event
-near : (c : After-lowest-t) → c.lowest-t.result < 32
-near c = tally_near _ _ _ _ _ c.loop-left.invariant c.loop-left-test.true c.lowest-t.ensures
-
-pub offset_bounds-impeders-t : goal.offset_bounds-impeders-t
-offset_bounds-impeders-t c = let l = near (goal.at.offset_bounds-impeders-t c).After-lowest-t in omega arith
-
-pub bounds-impeders-t : goal.bounds-impeders-t
-bounds-impeders-t c = near (goal.at.bounds-impeders-t c).After-lowest-t
-
-pub loop-left-smaller : goal.loop-left-smaller
-loop-left-smaller c =
-    tally_less _ _ _ _ _ c.loop-left.invariant c.loop-left-test.true c.lowest-t.ensures _ c.take-left.ensures c.take-left.type_inv
-
-pub loop-left-preserved : goal.loop-left-preserved
-loop-left-preserved c =
-    let n = c.widen-edges.ensures ∙ c.size.ensures in
+pub loop-t-preserved : goal.loop-t-preserved
+loop-t-preserved c =
+    let step = c.in-Some.ensures.steps in
+    let n = c.from-edges.ensures ∙ c.size.ensures in
     let row = c.awaited_by-awaited in
-    tally_more _ _ _ _ _ c.loop-left.invariant c.loop-left-test.true c.lowest-t.ensures _ c.take-left.ensures c.take-left.type_inv
-    row.result _ _ _ n (omega arith) (omega arith) row.type_inv (joined _ _ _ _ row.ensures)
+    (tt, tt, tally_more _ _ _ _ _ c.loop-t.invariant.2 step.0 step.1.holds _ step.2 row.result _ _ _ n refl refl row.type_inv (joined _ _ _ _ row.ensures))
+
+pub returns : goal.returns
+returns c = tally_done _ _ _ (rw c.in-None.ensures.steps.0 at c.loop-t.invariant.2)
