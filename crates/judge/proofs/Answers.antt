@@ -1,5 +1,5 @@
 -- Exactly when each answer comes, and what the verdict holds where it is 0.
-use mathlib.Core.Path.{◌≡◌, refl, sym, ap, ◌∙◌, subst}
+use mathlib.Core.Path.{◌≡◌, refl, sym, ap, subst}
 use mathlib.Core.Bool.{Bool, true, false}
 use mathlib.Core.List.{List}
 use mathlib.Core.Logic.{◌↔◌}
@@ -7,6 +7,8 @@ use Prim.Native.Nat.{ℕ, zero, suc, ◌^◌, ◌≤◌, ◌<◌}
 use native.Mathlib.Decide.{dec_lt}
 use native.Mathlib.Omega.{arith}
 use lib.Count.{ones}
+use Rattle.std.specs.Prelude.{Option, None, Some, []}
+use Rattle.states.proofs.Truth.{clash}
 use Rattle.sets.specs.Set.{Has, size}
 use Rattle.sets.proofs.Sizes.{ones_size}
 use Rattle.sets.proofs.Widths.{members_fit}
@@ -32,13 +34,13 @@ no_end N E next x = let u = next (x.walk x.after) (here x.after (omega arith)) i
     here zero l = x.starts.holds
     here (suc k) l = (x.steps k (omega arith)).holds.0
 
-always_closed : (N : ℕ → Type 0) (E : ℕ → ℕ → Type 0) → ((k : ℕ) → N k → (u : ℕ) × N u × E k u) → (r : Round) → RingIn N E r → r.closed ≡ true
-always_closed N E next r x = go r.closed x.ring x.comes
+never_stops : (N : ℕ → Type 0) (E : ℕ → ℕ → Type 0) → ((k : ℕ) → N k → (u : ℕ) × N u × E k u) → Comes N E false [] → ⊥
+never_stops N E next x = go false [] x refl
   where
-    go : (b : Bool) (l : List ℕ) → Comes N E b l → b ≡ true
-    go _ _ (nobody n) = refl
-    go _ _ (round y) = refl
-    go _ _ (stops y) = absurd (no_end N E next y)
+    go : (b : Bool) (l : List ℕ) → Comes N E b l → b ≡ false → ⊥
+    go _ _ (nobody n) e = clash refl e
+    go _ _ (round y) e = clash refl e
+    go _ _ (stops y) e = no_end N E next y
 
 module _ (t : Table) where
   pub never_ends : DeadEnd (TaskNamed (BlockedOn t) (Impedes t)) (ImpedesTask t) → ⊥
@@ -51,10 +53,10 @@ module _ (t : Table) where
     pub stuck : (k : ℕ) → Has v.named k ↔ Stuck (BlockedOn t) (Impedes t) k
     pub count : v.count ≡ size v.named 32
     pub count_ones : v.count ≡ ones v.named
-    pub ring : RingIn (Has v.named) (ImpedesTask t) (record { closed = true; length = v.length; tasks = v.ring })
+    pub ring : RingIn (Has v.named) (ImpedesTask t) (Some (record { length = v.length; tasks = v.ring }))
 
   found_holds : (route : ℕ) (v : Verdict) → route ≤ largest_route → Found t route v → Holds v
-  found_holds route v l x = subst Holds (sym (x.verdict ∙ ap (verdict_of x.named) shut)) holds
+  found_holds route v l x = holds x.round x.ring x.verdict
     where
       named : TaskRoute t x.named
       named = found_named t route v l x
@@ -62,20 +64,14 @@ module _ (t : Table) where
       next : (k : ℕ) → Has x.named k → (u : ℕ) × Has x.named u × ImpedesTask t k u
       next k h = let u = named_next t k ((named.iff k).0 h) in (u.0, (named.iff u.0).1 u.1, u.2)
 
-      shut : x.round ≡ record { closed = true; length = x.round.length; tasks = x.round.tasks }
-      shut = ap (λ b. record { closed = b; length = x.round.length; tasks = x.round.tasks }) (always_closed _ _ next x.round x.ring)
-
       fits : x.named < 2 ^ 32
       fits = members_fit 32 x.named (λ k h. let e = first ((named.iff k).0 h) in blocked_below t k e.event e.waits)
 
-      holds : Holds (verdict_of x.named (record { closed = true; length = x.round.length; tasks = x.round.tasks }))
-      holds = record {
-        answer = refl;
-        stuck = task_stuck t x.named named;
-        count = refl;
-        count_ones = sym (ones_size 32 x.named fits);
-        ring = subst (RingIn (Has x.named) (ImpedesTask t)) shut x.ring;
-      }
+      holds : (r : Option Round) → RingIn (Has x.named) (ImpedesTask t) r → v ≡ verdict_of x.named r → Holds v
+      holds None ring e = absurd (never_stops _ _ next ring)
+      holds (Some r) ring e =
+          subst Holds (sym e)
+          (record { answer = refl; stuck = task_stuck t x.named named; count = refl; count_ones = sym (ones_size 32 x.named fits); ring = ring })
 
   module _ (route : ℕ) (v : Verdict) (j : Judged t route v) where
     pub judged_holds : route ≤ largest_route → sound_of t ≡ true → Holds v

@@ -1,23 +1,20 @@
 -- The event route: events that nobody left impedes are taken out, each with all who await it.
 use mathlib.Core.Path.{◌≡◌, refl, sym, ap, ◌∙◌, subst}
-use mathlib.Core.Bool.{Bool, true, false}
+use mathlib.Core.Bool.{true}
 use mathlib.Core.List.{List}
 use mathlib.Core.Logic.{◌↔◌, ◌⊎◌, inl, inr}
-use Prim.Native.Nat.{ℕ, ◌+◌, ◌%◌, ◌^◌, ◌≤◌, ◌<◌}
-use native.Mathlib.Decide.{dec_lt, ℕ_discrete}
-use native.Mathlib.Nat.{le_antisymm}
+use Prim.Native.Nat.{ℕ, ◌+◌, ◌%◌, ◌^◌, ◌<◌}
+use native.Mathlib.Decide.{ℕ_discrete}
 use native.Mathlib.Omega.{arith}
 use lib.ListN.{get_or}
 use Rattle.sets.specs.Set.{Has}
-use Rattle.sets.proofs.Members.{Within, has_dec, has_pos, some_has, none_has, within_lt}
-use Rattle.sets.proofs.Loops.{Sifted, sift_done}
+use Rattle.sets.proofs.Members.{Within, has_dec, none_has, within_lt}
 use Rattle.deadlock.specs.Waiting.{EventEdge, EventNamed}
 use Rattle.deadlock.proofs.Walks.{first, rest, follow}
 use Rattle.states.specs.Parts.{event_of}
 use Rattle.states.specs.State.{free_task, is_blocked}
 use Rattle.states.specs.Waiting.{Awaited}
 use Rattle.states.proofs.Events.{is_blocked_lem, one_awaited, event_is}
-use Rattle.states.proofs.Truth.{clash}
 use Rattle.seating.specs.declared.seats.Seats.{Seats}
 use Rattle.hall.specs.Parts.{BlockedSet, Late}
 use Rattle.hall.specs.Table.{state_at}
@@ -27,7 +24,6 @@ use Rattle.hall.proofs.Looking.{event_read}
 use Rattle.hall.proofs.Seating.{seated_impedes, seated_waits}
 use Rattle.judge.specs.Parts.{Seated, Shaken}
 use Rattle.judge.specs.Routes.{EventRoute}
-use Rattle.judge.proofs.Seeking.{Sought, seek_some}
 
 -- ---- those who await an event of a phaser below n of which one of `gone` is a member
 module _ (members waiters : List ℕ) (gone : ℕ) where
@@ -35,35 +31,36 @@ module _ (members waiters : List ℕ) (gone : ℕ) where
   ShakenBelow n k = (p : ℕ) × (p < n) × Has (get_or waiters p 0) k × ((u : ℕ) × Has (get_or members p 0) u × Has gone u)
 
   pub record Shaking (n set : ℕ) : Type 0 where
-    pub near : n ≤ 16
     pub iff : (k : ℕ) → Has set k ↔ ShakenBelow n k
 
   pub shake_start : Shaking 0 0
-  shake_start = record { near = omega arith; iff = λ k. (λ h. absurd (none_has k h), λ h. absurd (omega arith)) }
+  shake_start = record { iff = λ k. (λ h. absurd (none_has k h), λ h. absurd (omega arith)) }
 
-  -- one phaser more: its waiters join where a test finds that some of `gone`, the set `both`, are its members
-  module _ (n set r both : ℕ) (join : Bool) (g : Shaking n set) (l : n < 16) (f : both < 2 ^ 32)
-      (common : (k : ℕ) → Has both k ↔ (Has (get_or members n 0) k × Has gone k))
-      (also : (k : ℕ) → Has r k ↔ (Has set k ⊎ (Has (get_or waiters n 0) k × (join ≡ true)))) where
-    pub shake_more : (both ≡ 0 → join ≡ false) → (0 < both → join ≡ true) → Shaking (n + 1) r
-    shake_more none some = record { near = omega arith; iff = λ k. (λ h. into k ((also k).0 h), λ h. from k h (ℕ_discrete h.0 n)) }
+  -- one phaser more: its waiters join where some of `gone` are its members
+  module _ (n set : ℕ) (g : Shaking n set) where
+    pub shake_more : (r : ℕ) → ((k : ℕ) → Has r k ↔ (Has set k ⊎ Has (get_or waiters n 0) k)) → (u : ℕ) × Has (get_or members n 0) u × Has gone u
+        → Shaking (n + 1) r
+    shake_more r also some = record { iff = λ k. (λ h. into k ((also k).0 h), λ h. from k h (ℕ_discrete h.0 n)) }
       where
-        member : join ≡ true → Dec (0 < both) → (u : ℕ) × Has (get_or members n 0) u × Has gone u
-        member e (yes p) = let u = some_has 32 both f p in let q = (common u.0).0 u.1 in (u.0, q.0, q.1)
-        member e (no p) = absurd (clash e (none (omega arith)))
-
-        into : (k : ℕ) → Has set k ⊎ (Has (get_or waiters n 0) k × (join ≡ true)) → ShakenBelow (n + 1) k
+        into : (k : ℕ) → Has set k ⊎ Has (get_or waiters n 0) k → ShakenBelow (n + 1) k
         into k (inl h) = let q = (g.iff k).0 h in (q.0, omega arith, q.2, q.3)
-        into k (inr h) = (n, omega arith, h.0, member h.1 (dec_lt 0 both))
+        into k (inr h) = (n, omega arith, h, some)
 
         from : (k : ℕ) → (h : ShakenBelow (n + 1) k) → Dec (h.0 ≡ n) → Has r k
-        from k h (yes e) =
-            let u = rw e at h.3 in
-            (also k).1 (inr (rw e at h.2, some (has_pos both u.0 ((common u.0).1 (u.1, u.2)))))
+        from k h (yes e) = (also k).1 (inr (rw e at h.2))
         from k h (no e) = (also k).1 (inl ((g.iff k).1 (h.0, omega arith, h.2, h.3)))
 
-pub shake_done : (s : Seats) (gone n set : ℕ) → Shaking s.members s.waiters gone n set → 16 ≤ n → Shaken s gone set
-shake_done s gone n set g l = let e : n ≡ 16 = le_antisymm g.near l in record { iff = rw e at g.iff }
+    pub shake_less : ((u : ℕ) → Has (get_or members n 0) u → Has gone u → ⊥) → Shaking (n + 1) set
+    shake_less none = record {
+      iff = λ k. (λ h. let q = (g.iff k).0 h in (q.0, omega arith, q.2, q.3), λ h. from k h (ℕ_discrete h.0 n));
+    }
+      where
+        from : (k : ℕ) → (h : ShakenBelow (n + 1) k) → Dec (h.0 ≡ n) → Has set k
+        from k h (yes e) = let u = rw e at h.3 in absurd (none u.0 u.1 u.2)
+        from k h (no e) = (g.iff k).1 (h.0, omega arith, h.2, h.3)
+
+pub shake_done : (s : Seats) (gone n set : ℕ) → Shaking s.members s.waiters gone n set → n ≡ 16 → Shaken s gone set
+shake_done s gone n set g e = record { iff = rw e at g.iff }
 
 module _ (t : Table) where
   abbrev Named : ℕ → Type 0
@@ -88,16 +85,14 @@ module _ (t : Table) where
     held = λ k h n. absurd (n h);
   }
 
-  -- the lowest of `todo` stands for its event: of those who are left, who awaits it, and whether anybody impedes it
-  pub record Looked (left todo k : ℕ) (e : Awaited) (impeders waiters : ℕ) : Type 0 where
+  -- the lowest of `todo` stands for its event: of those who are left, who awaits it
+  pub record Looked (left todo k : ℕ) (e : Awaited) (waiters : ℕ) : Type 0 where
     pub near : k < 32
     pub here : Has todo k
     pub event : e ≡ event_of (get_or t.tasks k free_task).state
-    pub impede : (u : ℕ) → Has left u → Impedes t u e → Has impeders u
-    pub some : (impeders ≡ 0 → ⊥) → (u : ℕ) × Has left u × Impedes t u e
     pub await : (u : ℕ) → Has waiters u ↔ (Has left u × BlockedOn t u e)
 
-  module _ (left todo : ℕ) (g : Searched left todo) (k : ℕ) (e : Awaited) (impeders waiters : ℕ) (s : Looked left todo k e impeders waiters) where
+  module _ (left todo : ℕ) (g : Searched left todo) (k : ℕ) (e : Awaited) (waiters : ℕ) (s : Looked left todo k e waiters) where
     awaits : BlockedOn t k e
     awaits =
         let b = is_blocked_lem (state_at t k) (g.blocked k (g.within k s.here)) in
@@ -108,7 +103,7 @@ module _ (t : Table) where
 
     module _ (r : ℕ) (f : r < 2 ^ 32) where
       -- some task that is left impedes the event: it stays, and who awaits it need not be looked at again
-      module _ (some : impeders ≡ 0 → ⊥) (less : (j : ℕ) → Has r j ↔ (Has todo j × (Has waiters j → ⊥))) where
+      module _ (some : (u : ℕ) × Has left u × Impedes t u e) (less : (j : ℕ) → Has r j ↔ (Has todo j × (Has waiters j → ⊥))) where
         pub search_keep : Searched left r
         search_keep = record {
           fits = g.fits;
@@ -125,14 +120,13 @@ module _ (t : Table) where
             held j p n (yes q) (no w) d b = absurd (n ((less j).1 (q, w)))
             held j p n (yes q) (yes w) d b =
                 let e-is = one_awaited (state_at t j) e d ((s.await j).0 w).1 b in
-                let u = s.some some in
-                (u.0, u.1, subst (Impedes t u.0) e-is u.2)
+                (some.0, some.1, subst (Impedes t some.0) e-is some.2)
 
         pub keep_less : r < todo
         keep_less = within_lt 32 r todo k f (λ j p. ((less j).0 p).0) s.here (λ p. ((less k).0 p).1 mine)
 
       -- nobody left impedes it: it goes with all who await it, and who may be held up by them alone is to be looked at again
-      module _ (none : impeders ≡ 0) (less : (j : ℕ) → Has r j ↔ (Has left j × (Has waiters j → ⊥))) where
+      module _ (none : (u : ℕ) → Has left u → Impedes t u e → ⊥) (less : (j : ℕ) → Has r j ↔ (Has left j × (Has waiters j → ⊥))) where
         pub search_drop : (q : ℕ) → q < 2 ^ 32 → Within q r → ((j : ℕ) → Has r j → Has todo j → Has q j)
             → ((j u : ℕ) (d : Awaited) → Has r j → BlockedOn t j d → Has waiters u → Impedes t u d → Has q j) → Searched r q
         search_drop q fq inside still again = record {
@@ -152,7 +146,7 @@ module _ (t : Table) where
                 let d = first w.walk in
                 let u = g.covers d.task (record { event = w.walk.at 1; waits = d.blocked; walk = rest w.walk }) in
                 let i = subst (Impedes t d.task) (one_awaited (state_at t j) w.event e w.waits b) d.impedes in
-                none_has d.task (rw none at (s.impede d.task u i))
+                none d.task u i
 
         pub drop_less : r < left
         drop_less = within_lt 32 r left k f (λ j p. ((less j).0 p).0) (g.within k s.here) (λ p. ((less k).0 p).1 mine)
@@ -179,24 +173,20 @@ module _ (t : Table) (s : Seats) (seated : Seated t s) (left todo : ℕ) (g : Se
   sits : (k : ℕ) → Has left k → Has s.all k
   sits k h = (seated.blocked.iff k).1 (g.blocked k h)
 
-  module _ (e : Awaited) (p : ℕ) (column : p ≡ e.phaser.0 % 16) (start found unlooked : ℕ) (z : unlooked ≡ 0) where
-    pub found_waiters : ((k : ℕ) → Has start k ↔ (Has (get_or s.waiters p 0) k × Has left k)) → Sifted (λ u. BlockedOn t u e) start found unlooked
-        → (u : ℕ) → Has found u ↔ (Has left u × BlockedOn t u e)
-    found_waiters both x u =
-        let d = sift_done _ start found (rw z at x) u in (
-          λ h. (((both u).0 (d.0 h).0).1, (d.0 h).1),
-          λ h. d.1 ((both u).1 (seated_waits t s seated.seats e p column u (sits u h.0) h.1, h.0), h.1),
-        )
+  module _ (e : Awaited) (p : ℕ) (column : p ≡ e.phaser.0 % 16) (start : ℕ) where
+    pub found_waiters : ((k : ℕ) → Has start k ↔ (Has (get_or s.waiters p 0) k × Has left k))
+        → (found : ℕ) → ((u : ℕ) → Has found u ↔ (Has start u × BlockedOn t u e)) → (u : ℕ) → Has found u ↔ (Has left u × BlockedOn t u e)
+    found_waiters both found d u = (
+      λ h. let x = (d u).0 h in (((both u).0 x.0).1, x.1),
+      λ h. (d u).1 ((both u).1 (seated_waits t s seated.seats e p column u (sits u h.0) h.1, h.0), h.1),
+    )
 
-    module _ (both : (k : ℕ) → Has start k ↔ (Has (get_or s.members p 0) k × Has left k)) (x : Sought (λ u. Late t u e) start found unlooked) where
-      pub found_impeders : (u : ℕ) → Has left u → Impedes t u e → Has found u
-      found_impeders u h i = let m = (seated_impedes t s seated.seats e p column u).1 (sits u h, i) in x.keeps u ((both u).1 (m.0, h)) m.1
+    module _ (both : (k : ℕ) → Has start k ↔ (Has (get_or s.members p 0) k × Has left k)) where
+      pub one_impedes : (u : ℕ) × Has start u × Late t u e → (u : ℕ) × Has left u × Impedes t u e
+      one_impedes u = let m = (both u.0).0 u.1 in (u.0, m.1, ((seated_impedes t s seated.seats e p column u.0).0 (m.0, u.2)).1)
 
-      pub some_impedes : found < 2 ^ 32 → (found ≡ 0 → ⊥) → (u : ℕ) × Has left u × Impedes t u e
-      some_impedes f n =
-          let u = seek_some _ start found unlooked z x f n in
-          let m = (both u.0).0 u.1 in
-          (u.0, m.1, ((seated_impedes t s seated.seats e p column u.0).0 (m.0, u.2)).1)
+      pub none_impedes : ((u : ℕ) → Has start u → Late t u e → ⊥) → (u : ℕ) → Has left u → Impedes t u e → ⊥
+      none_impedes none u h i = let m = (seated_impedes t s seated.seats e p column u).1 (sits u h, i) in none u ((both u).1 (m.0, h)) m.1
 
   -- who is held up by one of those who go is shaken
   pub shaken_has : (gone set : ℕ) → Within gone left → Shaken s gone set → (j u : ℕ) (d : Awaited) → Has left j → BlockedOn t j d → Has gone u

@@ -1,10 +1,8 @@
-pub mod Seeking
 pub mod Events
 pub mod Tasks
 pub mod Steps
 pub mod Named
 pub mod One
 pub mod Answers
-pub mod Verdicts
 pub mod Twins
 pub mod OfSheets

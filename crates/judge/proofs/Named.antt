@@ -1,10 +1,10 @@
 -- Whom the routes name, in any table: those whom some totally deadlocked set holds, and so the same.
 use mathlib.Core.Path.{◌≡◌, refl, ap}
-use mathlib.Core.Bool.{true}
 use mathlib.Core.Logic.{◌↔◌}
 use Prim.Native.Nat.{ℕ, zero, suc, ◌≤◌}
 use native.Mathlib.Omega.{arith}
 use lib.ListN.{replicate}
+use Rattle.std.specs.Prelude.{Option, Some}
 use Rattle.sets.specs.Set.{Has, size}
 use Rattle.sets.proofs.Members.{none_has}
 use Rattle.sets.proofs.Widths.{same_members}
@@ -64,7 +64,7 @@ module _ (t : Table) where
   pub found_named : (route : ℕ) (v : Verdict) → route ≤ largest_route → (f : Found t route v) → TaskRoute t f.named
   found_named route v l f = route_named route f.named l (record { tasks = f.by_tasks; events = f.by_events; fewer = f.by_fewer })
 
-  pub found_by : (route m : ℕ) (v : Verdict) (r : Round) → TaskRoute t m → RingIn (Has m) (ImpedesTask t) r → v ≡ verdict_of m r → Found t route v
+  pub found_by : (route m : ℕ) (v : Verdict) (r : Option Round) → TaskRoute t m → RingIn (Has m) (ImpedesTask t) r → v ≡ verdict_of m r → Found t route v
   found_by route m v r x ring e = record {
     named = m;
     by_tasks = λ q. x;
@@ -92,7 +92,7 @@ module _ (t : Table) where
     by_tasks = r.tasks;
     by_events = r.events;
     by_fewer = r.fewer;
-    round = record { closed = true; length = 0; tasks = replicate 32 255 };
+    round = Some (record { length = 0; tasks = replicate 32 255 });
     ring = nobody_ring (ImpedesTask t);
     verdict = e;
   }

@@ -2,13 +2,14 @@
 use mathlib.Core.Path.{◌≡◌, refl, sym, ◌∙◌, subst}
 use mathlib.Core.List.{List}
 use mathlib.Core.Logic.{◌↔◌, ◌⊎◌, inl, inr}
-use Prim.Native.Nat.{ℕ, ◌%◌, ◌^◌, ◌≤◌, ◌<◌}
-use native.Mathlib.Decide.{dec_lt, ℕ_discrete}
+use Prim.Native.Nat.{ℕ, ◌%◌, ◌^◌, ◌<◌}
+use native.Mathlib.Decide.{ℕ_discrete}
 use native.Mathlib.Omega.{arith}
-use lib.ListN.{get_or, length, replicate, set, length-set}
+use lib.ListN.{get_or, length, replicate, set, length-set, get_or-replicate}
 use lib.Seq.{get_or-set_same, get_or-set_other}
-use Rattle.sets.specs.Set.{Has, LowestOf}
+use Rattle.sets.specs.Set.{Has, Least}
 use Rattle.sets.proofs.Members.{Taken, has_lt, none_has}
+use Rattle.sets.proofs.Least.{least_along}
 use Rattle.deadlock.specs.Ring.{Step}
 use Rattle.states.specs.Parts.{event_of}
 use Rattle.states.specs.State.{free_task}
@@ -20,15 +21,6 @@ use Rattle.hall.specs.declared.table.Table.{Table}
 use Rattle.hall.proofs.Looking.{event_read, impedes_task}
 use Rattle.hall.proofs.Seating.{seated_impedes}
 use Rattle.judge.specs.Parts.{NamedSeats, LowestWith, NextsOf}
-use Rattle.judge.proofs.Seeking.{Sought, seek_done, lowest_along}
-
--- the lowest of a set is a number that a byte holds
-pub lowest_le : (m r : ℕ) → m < 2 ^ 32 → LowestOf m r → r ≤ 32
-lowest_le m r f l = go (dec_lt 0 m)
-  where
-    go : Dec (0 < m) → r ≤ 32
-    go (yes p) = let z = has_lt 32 m r f (l.some p).holds in omega arith
-    go (no p) = let z = l.none (omega arith) in omega arith
 
 module _ (t : Table) (named : ℕ) where
   abbrev StepsTo : ℕ → ℕ → Type 0
@@ -48,28 +40,45 @@ module _ (t : Table) (named : ℕ) where
               ((both u).1 (m.0, x.0), m.1),
         )
 
-    pub step_found : (kept left u : ℕ) → left ≡ 0 → Sought (λ v. Late t v e) start kept left → LowestOf kept u → StepsTo k u
-    step_found kept left u z g low = lowest_along late_impedes (seek_done _ start kept left u z g low)
+    pub step_found : (u : ℕ) → Least (λ v. Has start v × Late t v e) u → StepsTo k u
+    step_found u low = inl (least_along (λ v. (late_impedes v).0) (λ v. (late_impedes v).1) low)
 
-  -- ---- those of the named who are not to be looked at have their step
+    pub none_found : ((v : ℕ) → Has start v → Late t v e → ⊥) → (v : ℕ) → Has named v × ImpedesTask t k v → ⊥
+    none_found none v h = let x = (late_impedes v).1 h in none v x.0 x.1
+
+  -- ---- those of the named who are not to come any more have their step, the others 32
   pub record Stepped (next : List ℕ) (todo : ℕ) : Type 0 where
-    pub fits : todo < 2 ^ 32
     pub long : length next ≡ 32
+    pub waits : (k : ℕ) → Has todo k → get_or next k 0 ≡ 32
     pub each : (k : ℕ) → Has named k → (Has todo k → ⊥) → StepsTo k (get_or next k 0)
 
-  pub step_start : (any : ℕ) → named < 2 ^ 32 → Stepped (replicate 32 any) named
-  step_start any f = record { fits = f; long = refl; each = λ k h n. absurd (n h) }
+  pub step_start : named < 2 ^ 32 → Stepped (replicate 32 32) named
+  step_start f = record {
+    long = refl;
+    waits = λ k h. get_or-replicate {A = ℕ} 32 k 32 0 (has_lt 32 named k f h);
+    each = λ k h n. absurd (n h);
+  }
 
-  pub step_more : (next : List ℕ) (todo k u rest : ℕ) → Stepped next todo → k < 32 → Taken todo k rest → rest < 2 ^ 32 → StepsTo k u
-      → Stepped (set next k u) rest
-  step_more next todo k u rest g l taken f step =
-      record { fits = f; long = length-set next k u ∙ g.long; each = λ j h n. go j h n (ℕ_discrete j k) }
-    where
-      go : (j : ℕ) → Has named j → (Has rest j → ⊥) → Dec (j ≡ k) → StepsTo j (get_or (set next k u) j 0)
-      go j h n (yes e) =
-          let z = g.long in
-          subst (λ i. StepsTo i (get_or (set next k u) i 0)) (sym e) (rw (get_or-set_same next k u 0 (omega arith)) step)
-      go j h n (no e) = rw (get_or-set_other next k j u 0 e) (g.each j h (λ x. n ((taken j).1 (x, e))))
+  module _ (next : List ℕ) (todo k rest : ℕ) (g : Stepped next todo) (here : Has todo k) (taken : Taken todo k rest) where
+    pub step_more : (u : ℕ) → k < 32 → StepsTo k u → Stepped (set next k u) rest
+    step_more u l step = record {
+      long = length-set next k u ∙ g.long;
+      waits = λ j h. let q = (taken j).0 h in get_or-set_other next k j u 0 q.1 ∙ g.waits j q.0;
+      each = λ j h n. go j h n (ℕ_discrete j k);
+    }
+      where
+        go : (j : ℕ) → Has named j → (Has rest j → ⊥) → Dec (j ≡ k) → StepsTo j (get_or (set next k u) j 0)
+        go j h n (yes e) =
+            let z = g.long in
+            subst (λ i. StepsTo i (get_or (set next k u) i 0)) (sym e) (rw (get_or-set_same next k u 0 (omega arith)) step)
+        go j h n (no e) = rw (get_or-set_other next k j u 0 e) (g.each j h (λ x. n ((taken j).1 (x, e))))
+
+    pub step_none : ((v : ℕ) → Has named v × ImpedesTask t k v → ⊥) → Stepped next rest
+    step_none none = record { long = g.long; waits = λ j h. g.waits j ((taken j).0 h).0; each = λ j h n. go j h n (ℕ_discrete j k) }
+      where
+        go : (j : ℕ) → Has named j → (Has rest j → ⊥) → Dec (j ≡ k) → StepsTo j (get_or next j 0)
+        go j h n (yes e) = subst (λ i. StepsTo i (get_or next i 0)) (sym e) (inr (none, g.waits k here))
+        go j h n (no e) = g.each j h (λ x. n ((taken j).1 (x, e)))
 
   pub step_done : (next : List ℕ) (todo : ℕ) → todo ≡ 0 → Stepped next todo → NextsOf t named next
   step_done next todo z g = record { each = λ k h. g.each k h (rw z (none_has k)) }

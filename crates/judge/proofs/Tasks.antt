@@ -5,6 +5,7 @@ use mathlib.Core.List.{List, []}
 use mathlib.Core.Logic.{◌↔◌}
 use Prim.Native.Nat.{ℕ}
 use lib.ListN.{replicate}
+use Rattle.std.specs.Prelude.{Some}
 use Rattle.sets.specs.Set.{Has}
 use Rattle.sets.proofs.Members.{none_has}
 use Rattle.deadlock.specs.Ring.{RingIn, nobody}
@@ -50,5 +51,5 @@ module _ (t : Table) (among : ℕ) (rows : List ℕ) (edges : Edges t among rows
   rows_named m n = record { iff = λ k. (λ h. along row_edge ((n.iff k).0 h), λ w. (n.iff k).1 (along edge_row w)) }
 
 -- ---- where nobody is named, the ring walk comes to nothing
-pub nobody_ring : (Edge : ℕ → ℕ → Type 0) → RingIn (Has 0) Edge (record { closed = true; length = 0; tasks = replicate 32 255 })
+pub nobody_ring : (Edge : ℕ → ℕ → Type 0) → RingIn (Has 0) Edge (Some (record { length = 0; tasks = replicate 32 255 }))
 nobody_ring Edge = record { ring = []; comes = nobody none_has; long = refl; places = refl }

@@ -9,6 +9,7 @@ use native.Mathlib.Omega.{arith}
 use lib.Dec.{ltb}
 use lib.ListN.{get_or, length, replicate}
 use borrow.Author.Tests.{lt-ltb, le-ltb}
+use Rattle.std.specs.Prelude.{Option, Some}
 use Rattle.sets.specs.Set.{Has}
 use Rattle.sets.proofs.Members.{has_lt, none_has, full_has}
 use Rattle.sets.proofs.Least.{least_along}
@@ -104,10 +105,10 @@ ring_in_lem t p =
 
 -- ---- the verdict
 abbrev round_of : List ℕ → Round
-round_of r = record { closed = true; length = length r; tasks = r ++ replicate (32 - length r) 255 }
+round_of r = record { length = length r; tasks = r ++ replicate (32 - length r) 255 }
 
-unfoldable pub round_in : Table → Round
-round_in t = round_of (cond (ltb 0 (named_in t)) (ring_in t) [])
+unfoldable pub round_in : Table → Option Round
+round_in t = Some (round_of (cond (ltb 0 (named_in t)) (ring_in t) []))
 
 round_in_lem : (t : Table) → RingIn (Has (named_in t)) (ImpedesTask t) (round_in t)
 unfolding round_in

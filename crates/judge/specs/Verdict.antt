@@ -1,6 +1,6 @@
 -- Document 01, 'The hall sheet': "A judge over a table tests 41, then 44; it hands back what the strip would hold, and on a refusal the verdict of nobody.
 -- In both, 22 is the last test."
-use Rattle.std.specs.Prelude.{◌≡◌, true, false, cond, ℕ, ◌<◌, ◌≤◌, replicate}
+use Rattle.std.specs.Prelude.{◌≡◌, true, false, Option, None, Some, ℕ, ◌<◌, ◌≤◌, replicate}
 use Rattle.sets.specs.Set.{Has, size}
 use Rattle.deadlock.specs.Ring.{RingIn}
 use Rattle.deadlock.specs.declared.ring.Round.{Round}
@@ -16,10 +16,9 @@ abbrev pub nobody : ℕ → Verdict
 nobody answer = record { answer = answer; named = 0; count = 0; length = 0; ring = replicate 32 255 }
 
 -- "the mask of named tasks ..; the count; the ring's length; the ring's task numbers ..", "the count is the number of set bits in the mask"
-abbrev pub verdict_of : ℕ → Round → Verdict
-verdict_of named round =
-    cond round.closed
-    (record { answer = done; named = named; count = size named 32; length = round.length; ring = round.tasks }) (nobody no_step)
+abbrev pub verdict_of : ℕ → Option Round → Verdict
+verdict_of named None = nobody no_step
+verdict_of named (Some round) = record { answer = done; named = named; count = size named 32; length = round.length; ring = round.tasks }
 
 -- the verdict of a sound table by route 0, 1 or 2
 pub record Found (t : Table) (route : ℕ) (v : Verdict) : Type 0 where
@@ -27,7 +26,7 @@ pub record Found (t : Table) (route : ℕ) (v : Verdict) : Type 0 where
   pub by_tasks : route ≡ 0 → TaskRoute t named
   pub by_events : route ≡ 1 → EventRoute t named
   pub by_fewer : route ≡ 2 → FewerRoute t named
-  pub round : Round
+  pub round : Option Round
   pub ring : RingIn (Has named) (ImpedesTask t) round
   pub verdict : v ≡ verdict_of named round
 

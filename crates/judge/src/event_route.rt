@@ -1,5 +1,6 @@
-ghost use Rattle.std.specs.Prelude.{◌≡◌, true, ◌↔◌, ◌⊎◌, ℕ};
-ghost use Rattle.sets.specs.Set.{Has};
+ghost use Rattle.std.specs.Prelude.{◌≡◌, ◌+◌, ◌*◌, ◌<◌, true, get_or};
+ghost use Rattle.states.specs.Parts.{awaits_of, impedes_at};
+ghost use Rattle.states.specs.State.{free_task, phase0};
 ghost use Rattle.judge.specs.Parts.{Seated, Shaken};
 ghost use Rattle.judge.specs.Routes.{EventRoute};
 
@@ -14,13 +15,6 @@ pub fn event_route(table: Table) -> u32
     along_events(table, table.seats(table.blocked()))
 }
 
-// The set, with more where they join.
-fn also(set: u32, more: u32, join: bool) -> u32
-    ensures { (k : ℕ) → Has result k ↔ (Has set k ⊎ (Has more k × (join ≡ true))) }
-{
-    if join { sets::either(set, more) } else { set }
-}
-
 // Those who await an event of a phaser of which one of `gone` is a member: nobody else's event may have been impeded by them.
 fn shaken(seats: Seats, gone: u32) -> u32
     ensures { Shaken seats gone result }
@@ -28,10 +22,10 @@ fn shaken(seats: Seats, gone: u32) -> u32
     let members = seats.members;
     let waiters = seats.waiters;
     let mut set: u32 = 0;
-    let mut p: usize = 0;
-    while p < 16 {
-        set = also(set, waiters[p], 0 < sets::common(members[p], gone));
-        p += 1;
+    for p in 0..16usize {
+        if sets::common(members[p], gone) != 0 {
+            set = sets::either(set, waiters[p]);
+        }
     }
     set
 }
@@ -46,33 +40,28 @@ pub(crate) fn along_events(table: Table, seats: Seats) -> u32
     let waiters = seats.waiters;
     let mut left = seats.all;
     let mut todo = left;
-    while todo != 0 {
-        let t = sets::lowest(todo);
-        let task = table.tasks[t];
-        let event = event_of(task);
+    while let Some(t) = sets::each(todo).next() {
+        let event = event_of(table.tasks[t]);
         let place = column(event);
-        let mut alike = sets::common(waiters[place], left);
-        let mut unasked = alike;
-        while unasked != 0 {
-            let w = sets::lowest(unasked);
-            let other = table.tasks[w];
-            alike = sets::kept(alike, w, awaits(other, event));
-            unasked = sets::rest(unasked);
-        }
-        let mut impeders = sets::common(members[place], left);
-        let mut unseen = impeders;
-        while unseen != 0 {
-            let u = sets::lowest(unseen);
-            let phase = table.phases[u * 16 + place];
-            let late = impedes(true, phase, event);
-            impeders = sets::kept(impeders, u, late);
-            unseen = sets::until(unseen, late);
-        }
-        if impeders == 0 {
+        let alike = sets::those(
+            sets::common(waiters[place], left),
+            |w|
+                requires { w < 32 }
+                ensures { result ≡ awaits_of (get_or table.tasks w free_task).state event }
+            { awaits(table.tasks[w], event) },
+        );
+        let impeder = sets::first(
+            sets::common(members[place], left),
+            |u|
+                requires { (u < 32) × (place < 16) }
+                ensures { result ≡ impedes_at true (get_or table.phases (u * 16 + place) phase0) event }
+            { impedes(true, table.phases[u * 16 + place], event) },
+        );
+        if impeder.is_some() {
+            todo = sets::less(todo, alike);
+        } else {
             left = sets::less(left, alike);
             todo = sets::common(left, sets::either(todo, shaken(seats, alike)));
-        } else {
-            todo = sets::less(todo, alike);
         }
     }
     left

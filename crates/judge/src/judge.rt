@@ -8,7 +8,7 @@ use crate::event_route::along_events;
 use crate::ring::ring_of;
 use crate::task_route::along_tasks;
 use crate::verdict::Verdict;
-use answers::{DONE, NO_ROUTE, NO_STEP, NOT_SOUND};
+use answers::{DONE, Refusal};
 use deadlock::ring::Round;
 use density::events::awaited_twice;
 use hall::table::Table;
@@ -42,20 +42,21 @@ fn named_by(table: Table, seats: Seats, route: u64) -> u32
     }
 }
 
-fn verdict(named: u32, round: Round) -> Verdict
+fn verdict(named: u32, round: Option<Round>) -> Verdict
     ensures { result ≡ verdict_of named round }
 {
-    if round.closed {
-        let ring = round.tasks;
-        Verdict {
-            answer: DONE,
-            named,
-            count: sets::size(named),
-            length: round.length,
-            ring,
+    match round {
+        Some(round) => {
+            let ring = round.tasks;
+            Verdict {
+                answer: DONE,
+                named,
+                count: sets::size(named),
+                length: round.length,
+                ring,
+            }
         }
-    } else {
-        Verdict::nobody(NO_STEP)
+        None => Verdict::nobody(Refusal::NoStep.number()),
     }
 }
 
@@ -81,10 +82,10 @@ pub fn judge(table: Table, route: u64) -> Verdict
     ensures { Judged table route result }
 {
     if route > LARGEST_ROUTE {
-        return Verdict::nobody(NO_ROUTE);
+        return Verdict::nobody(Refusal::NoRoute.number());
     }
     if !table.is_sound() {
-        return Verdict::nobody(NOT_SOUND);
+        return Verdict::nobody(Refusal::NotSound.number());
     }
     found(table, table.blocked(), route)
 }

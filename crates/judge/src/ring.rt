@@ -1,4 +1,7 @@
+ghost use Rattle.std.specs.Prelude.{◌≡◌, ◌+◌, ◌*◌, ◌<◌, true, get_or};
 ghost use Rattle.sets.specs.Set.{Has};
+ghost use Rattle.states.specs.Parts.{impedes_at};
+ghost use Rattle.states.specs.State.{phase0};
 ghost use Rattle.deadlock.specs.Ring.{RingIn};
 ghost use Rattle.hall.specs.Waiting.{ImpedesTask};
 ghost use Rattle.judge.specs.Parts.{NamedSeats, NextsOf};
@@ -15,29 +18,25 @@ fn nexts(table: Table, seats: Seats, named: u32) -> [u8; 32]
 {
     let members = seats.members;
     let mut next = [32u8; 32];
-    let mut todo = named;
-    while todo != 0 {
-        let t = sets::lowest(todo);
-        let task = table.tasks[t];
-        let event = event_of(task);
+    for t in sets::each(named) {
+        let event = event_of(table.tasks[t]);
         let place = column(event);
-        let mut impeders = sets::common(members[place], named);
-        let mut left = impeders;
-        while left != 0 {
-            let u = sets::lowest(left);
-            let phase = table.phases[u * 16 + place];
-            let late = impedes(true, phase, event);
-            impeders = sets::kept(impeders, u, late);
-            left = sets::until(left, late);
+        let step = sets::first(
+            sets::common(members[place], named),
+            |u|
+                requires { (u < 32) × (place < 16) }
+                ensures { result ≡ impedes_at true (get_or table.phases (u * 16 + place) phase0) event }
+            { impedes(true, table.phases[u * 16 + place], event) },
+        );
+        if let Some(u) = step {
+            next[t] = u as u8;
         }
-        next[t] = sets::lowest(impeders) as u8;
-        todo = sets::rest(todo);
     }
     next
 }
 
 // The ring of the named tasks: from each the walk steps to the lowest named one that impedes its event.
-pub(crate) fn ring_of(table: Table, seats: Seats, named: u32) -> Round
+pub(crate) fn ring_of(table: Table, seats: Seats, named: u32) -> Option<Round>
     requires { NamedSeats table seats named }
     ensures { RingIn (Has named) (ImpedesTask table) result }
 {

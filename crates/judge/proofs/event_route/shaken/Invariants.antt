@@ -1,10 +1,6 @@
 -- The invariant: those who are shaken at the phasers below p.
-use Prim.Native.Nat.{◌-◌}
 use Rattle.judge.proofs.Events.{Shaking}
 use Rattle.judge.proofs.event_route.shaken.Given as goal
 
 abbrev pub invariant-loop-p : goal.invariant-loop-p
 invariant-loop-p l = Shaking l.members l.waiters l.gone l.p l.set
-
-abbrev pub decreases-loop-p : goal.decreases-loop-p
-decreases-loop-p l = 16 - l.p
