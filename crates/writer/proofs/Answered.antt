@@ -18,22 +18,22 @@ use Rattle.writer.specs.Parts.{Laid}
 use Rattle.writer.specs.Writer.{wrote, write_of}
 use Rattle.writer.proofs.Laying.{laid_whole}
 
+module _ (t : Table) where
+  -- so many bytes as the longest sheet has are not too few for any
+  pub long_enough : (room : ℕ) → sound_of t ≡ true → Shaped t → longest_sheet ≤ room → length (sheet_of t) ≤ room
+  long_enough room e s h = omega (arith, h, written_no_longer t ((sound_iff t).0 e) s)
+
 module _ (t : Table) (b : List ℕ) where
   pub unsound_written : sound_of t ≡ false → wrote not_sound 0 b ≡ write_of t b
   unfolding write_of
   unsound_written e = rw e
 
-  -- a buffer of the longest sheet's length is not too short for any
-  pub long_enough : sound_of t ≡ true → Shaped t → longest_sheet ≤ length b → length (sheet_of t) ≤ length b
-  long_enough e s h = omega (arith, h, written_no_longer t ((sound_iff t).0 e) s)
-
   module _ (e : sound_of t ≡ true) where
-    pub short_written : {b' : List ℕ} → length b < length (sheet_of t) → b' ≡ b → wrote short_buffer 0 b' ≡ write_of t b
+    pub short_written : length b < length (sheet_of t) → wrote short_buffer 0 b ≡ write_of t b
     unfolding write_of
-    short_written h q = rw (e, lt-ltb _ _ h, q)
+    short_written h = rw (e, lt-ltb _ _ h)
 
-    pub sheet_written : {n : ℕ} {b' : List ℕ} → length (sheet_of t) ≤ length b → Laid (length b) b 0 (sheet_of t) b' n
-        → wrote done n b' ≡ write_of t b
+    pub sheet_written : {n : ℕ} {b' : List ℕ} → length (sheet_of t) ≤ length b → Laid b 0 (sheet_of t) b' n → wrote done n b' ≡ write_of t b
     unfolding write_of
     sheet_written {n} h g =
         let long : n ≡ length (sheet_of t) = omega (arith, g.place) in

@@ -6,15 +6,8 @@ use Prim.Native.Nat.{ℕ, zero, suc, ◌+◌, ◌*◌, ◌≤◌}
 use native.Mathlib.Numerals.{add-one}
 use native.Mathlib.Omega.{arith}
 use lib.ListN.{length, length-append}
-use Rattle.sheet.specs.Written.{count, gather}
-use Rattle.writer.specs.Parts.{counted_of, if_there}
-
-pub count_next : (f : ℕ → Bool) (n : ℕ) {many more : ℕ} {there : Bool} → many ≡ count f n → f n ≡ there → more ≡ counted_of many there
-    → more ≡ count f (n + 1)
-count_next f n e h r = rw (add-one n, h, ← e) r
-
-pub count_done : (f : ℕ → Bool) (n m : ℕ) {many : ℕ} → n ≡ m → many ≡ count f n → many ≡ count f m
-count_done f n m q e = rw (← q) e
+use Rattle.sheet.specs.Written.{gather}
+use Rattle.writer.specs.Parts.{if_there}
 
 pub gather_next : (f : ℕ → Bool) (g : ℕ → List ℕ) (n : ℕ) → gather f g n ++ if_there (f n) (g n) ≡ gather f g (n + 1)
 unfolding if_there

@@ -1,19 +1,19 @@
 -- A number's groups, laid one by one.
-use mathlib.Core.Path.{◌≡◌, refl, ap, ◌∙◌}
+use mathlib.Core.Path.{◌≡◌, refl, ap}
 use mathlib.Core.Bool.{Bool, true, false, cond}
 use mathlib.Core.List.{List, [], ◌∷◌, ◌++◌}
 use Prim.Native.Nat.{ℕ, zero, suc, ◌+◌, ◌/◌, ◌%◌, ◌^◌, ◌≤◌, ◌<◌}
 use native.Mathlib.Numerals.{add-one}
 use native.Mathlib.Omega.{arith}
 use lib.Dec.{ltb}
-use lib.ListN.{length, length-append}
+use lib.ListN.{length, set, length-append}
+use lib.Seq.{sets}
 use borrow.Author.Tests.{lt-ltb, le-ltb}
 use Rattle.states.specs.declared.state.State.{State}
 use Rattle.states.specs.declared.state.State.TheVariants.{Free, Running, Blocked}
 use Rattle.sheet.specs.Written.{state_bytes}
 use Rattle.fields.specs.Number.{groups_of, number_bytes}
-use Rattle.writer.specs.Parts.{stored, laid_from, Laid}
-use Rattle.writer.proofs.Laying.{length_stored, laid_ready}
+use Rattle.writer.specs.Parts.{Laid}
 
 groups_short : (k n : ℕ) → length (groups_of k n) ≤ k
 groups_short zero n = omega arith
@@ -43,37 +43,30 @@ state_short (Blocked e) =
     rw (length-append (number_bytes 1) (phaser ++ phase), length-append phaser phase)
     (omega (arith, number_short 1, number_short e.phaser.0, number_short e.phase.0))
 
--- after a number the next part may be laid
-pub number_ready : {room : ℕ} {b b' : List ℕ} {at m : ℕ} (n limit : ℕ) → Laid room b at (number_bytes n) b' m → room ≤ length b
-    → at + 10 ≤ limit → (room ≤ length b') × (m ≤ limit)
-number_ready n limit g h l = laid_ready limit g h (omega (arith, l, number_short n))
-
 -- what is left of a number, laid from here, gives what the whole gives, laid from where it begins
-pub record Putting (room : ℕ) (before : List ℕ) (at number : ℕ) (buffer : List ℕ) (next left : ℕ) : Type 0 where
+pub record Putting (before : List ℕ) (at number : ℕ) (buffer : List ℕ) (next left : ℕ) : Type 0 where
   pub more : ℕ
   pub small : left < 128 ^ suc more
   pub place : next + length (groups_of (suc more) left) ≡ at + length (number_bytes number)
-  pub laid : laid_from room buffer next (groups_of (suc more) left) ≡ laid_from room before at (number_bytes number)
-  pub long : length buffer ≡ length before
+  pub laid : sets buffer next (groups_of (suc more) left) ≡ sets before at (number_bytes number)
 
-pub putting_start : (room : ℕ) (before : List ℕ) (at number : ℕ) → number < 2 ^ 64 → Putting room before at number before at number
+pub putting_start : (before : List ℕ) (at number : ℕ) → number < 2 ^ 64 → Putting before at number before at number
 unfolding number_bytes
-putting_start room before at number h = record { more = 9; small = omega arith; place = refl; laid = refl; long = refl }
+putting_start before at number h = record { more = 9; small = omega arith; place = refl; laid = refl }
 
-module _ {room : ℕ} {before : List ℕ} {at number : ℕ} {buffer : List ℕ} {next left : ℕ} (g : Putting room before at number buffer next left) where
+module _ {before : List ℕ} {at number : ℕ} {buffer : List ℕ} {next left : ℕ} (g : Putting before at number buffer next left) where
   two_groups : (k : ℕ) → 128 ≤ left → groups_of (suc k) left ≡ (left % 128 + 128) ∷ groups_of k (left / 128)
   two_groups k h = rw (le-ltb left 128 h)
 
   pub putting_near : next < at + 10
   putting_near = omega (arith, g.place, some_group g.more left, number_short number)
 
-  pub putting_turn : (byte : ℕ) → byte ≡ left % 128 + 128 → 128 ≤ left
-      → Putting room before at number (stored room buffer next byte) (next + 1) (left / 128)
+  pub putting_turn : (byte : ℕ) → byte ≡ left % 128 + 128 → 128 ≤ left → Putting before at number (set buffer next byte) (next + 1) (left / 128)
   putting_turn byte q h = go g.more g.small g.place g.laid
     where
       go : (m : ℕ) → left < 128 ^ suc m → next + length (groups_of (suc m) left) ≡ at + length (number_bytes number)
-          → laid_from room buffer next (groups_of (suc m) left) ≡ laid_from room before at (number_bytes number)
-          → Putting room before at number (stored room buffer next byte) (next + 1) (left / 128)
+          → sets buffer next (groups_of (suc m) left) ≡ sets before at (number_bytes number)
+          → Putting before at number (set buffer next byte) (next + 1) (left / 128)
       go zero s p l = absurd (omega arith)
       go (suc m) s p l =
           let e = two_groups (suc m) h in
@@ -82,10 +75,9 @@ module _ {room : ℕ} {before : List ℕ} {at number : ℕ} {buffer : List ℕ} 
             small = omega arith;
             place = omega (arith, p, ap length e);
             laid = rw (add-one next, q) (rw e at l);
-            long = length_stored room buffer next byte ∙ g.long;
           }
 
-  pub putting_done : left < 128 → Laid room before at (number_bytes number) (stored room buffer next left) (next + 1)
+  pub putting_done : left < 128 → Laid before at (number_bytes number) (set buffer next left) (next + 1)
   putting_done h =
       let e : groups_of (suc g.more) left ≡ left ∷ [] = rw (lt-ltb left 128 h) in
       record { place = omega (arith, g.place, ap length e); buffer = rw e at g.laid }

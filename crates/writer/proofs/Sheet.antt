@@ -12,9 +12,10 @@ use Rattle.hall.specs.declared.table.Table.{Table}
 use Rattle.hall.proofs.Places.{state_in, open_in_lem, member_in, phase_in_lem}
 use Rattle.fields.specs.Number.{number_bytes}
 use Rattle.sheet.specs.Written.{count, gather, listed, state_bytes, member_bytes, task_bytes, live_at, sheet_of}
+use Rattle.std.specs.List.{slice_range}
+use Rattle.std.proofs.lemmas.List.Edits.{get_or-between}
 use Rattle.sheet.proofs.Gather.{count_same, listed_same}
 use Rattle.writer.specs.Parts.{Laid, flagged, live_in, if_there, entry_bytes, head_bytes, row_end}
-use Rattle.writer.proofs.Laying.{laid_ready}
 use Rattle.writer.proofs.Putting.{number_short, state_short}
 use Rattle.writer.proofs.Counting.{gather_next, gather_short}
 
@@ -43,24 +44,27 @@ unfolding if_there
 there_short true b h = h
 there_short false b h = omega arith
 
--- so after each of them the next may be laid
-module _ {room : ℕ} {b b' : List ℕ} {at m : ℕ} (limit : ℕ) (space : room ≤ length b) where
-  pub open_ready : (there : Bool) (p : ℕ) → Laid room b at (if_there there (number_bytes p)) b' m → at + 10 ≤ limit
-      → (room ≤ length b') × (m ≤ limit)
-  open_ready there p g l = laid_ready limit g space (omega (arith, l, there_short there (number_bytes p) (number_short p)))
+-- so each of them ends soon
+module _ {b b' : List ℕ} {at m : ℕ} where
+  pub number_ends : (n : ℕ) → Laid b at (number_bytes n) b' m → m ≤ at + 10
+  number_ends n g = omega (arith, g.place, number_short n)
 
-  pub entry_ready : (k : ℕ) (x : State) (many : ℕ) → Laid room b at (entry_bytes k x many) b' m → at + 50 ≤ limit
-      → (room ≤ length b') × (m ≤ limit)
-  entry_ready k x many g l =
+  pub state_ends : (x : State) → Laid b at (state_bytes x) b' m → m ≤ at + 30
+  state_ends x g = omega (arith, g.place, state_short x)
+
+  pub open_ends : (there : Bool) (p : ℕ) → Laid b at (if_there there (number_bytes p)) b' m → m ≤ at + 10
+  open_ends there p g = omega (arith, g.place, there_short there (number_bytes p) (number_short p))
+
+  pub entry_ends : (k : ℕ) (x : State) (many : ℕ) → Laid b at (entry_bytes k x many) b' m → m ≤ at + 50
+  entry_ends k x many g =
       let short = three_short (number_bytes k) (state_bytes x) (number_bytes many) (number_short k) (state_short x) (number_short many) in
-      laid_ready limit g space (omega (arith, l, there_short (is_live x) (number_bytes k ++ (state_bytes x ++ number_bytes many)) short))
+      omega (arith, g.place, there_short (is_live x) (number_bytes k ++ (state_bytes x ++ number_bytes many)) short)
 
-  pub member_ready : (there : Bool) (p n : ℕ) → Laid room b at (if_there there (number_bytes p ++ number_bytes n)) b' m → at + 20 ≤ limit
-      → (room ≤ length b') × (m ≤ limit)
-  member_ready there p n g l =
+  pub member_ends : (there : Bool) (p n : ℕ) → Laid b at (if_there there (number_bytes p ++ number_bytes n)) b' m → m ≤ at + 20
+  member_ends there p n g =
       let short : length (number_bytes p ++ number_bytes n) ≤ 20
       = rw (length-append (number_bytes p) (number_bytes n)) (omega (arith, number_short p, number_short n)) in
-      laid_ready limit g space (omega (arith, l, there_short there (number_bytes p ++ number_bytes n) short))
+      omega (arith, g.place, there_short there (number_bytes p ++ number_bytes n) short)
 
 pub row_within : (x : State) → row_end x ≤ 16
 row_within x = go (is_live x)
@@ -85,13 +89,14 @@ entry_row f g number state n end many e false q = rw q
 
 -- a phaser of the head more
 pub opens_next : (opened : List Bool) (p : ℕ)
-    → gather (flagged opened 0) number_bytes p ++ if_there (get_or opened p false) (number_bytes p) ≡ gather (flagged opened 0) number_bytes (p + 1)
-opens_next opened p = let z : 0 + p ≡ p = omega arith in rw z at (gather_next (flagged opened 0) number_bytes p)
+    → gather (flagged opened) number_bytes p ++ if_there (get_or opened p false) (number_bytes p) ≡ gather (flagged opened) number_bytes (p + 1)
+opens_next opened p = gather_next (flagged opened) number_bytes p
 
 module _ (t : Table) where
   -- as many as the code counts
-  pub members_same : (k n : ℕ) → k < 32 → n ≡ count (flagged t.members (k * 16)) 16 → n ≡ count (member_at t k) 16
-  members_same k n h e = e ∙ count_same _ _ 16 (λ p l. sym (member_in t k p h l))
+  pub members_same : (k : ℕ) → k < 32 → count (flagged (slice_range t.members (k * 16) (k * 16 + 16))) 16 ≡ count (member_at t k) 16
+  members_same k h =
+      count_same _ _ 16 (λ p l. get_or-between t.members (k * 16) (k * 16 + 16) p false (omega arith) ∙ sym (member_in t k p h l))
 
   -- a phaser more, its entry looked up at whatever place is that of task and phaser
   pub member_read : (k p i : ℕ) → i ≡ k * 16 + p → k < 32 → p < 16 → get_or t.members i false ≡ member_at t k p
@@ -106,28 +111,27 @@ module _ (t : Table) where
   row_next k p there n e q = rw (e, q) (gather_next (member_at t k) (member_bytes t k) p)
 
   -- a task more
-  pub task_next : (k many end : ℕ) (x : State) → k < 32 → many ≡ count (flagged t.members (k * 16)) 16
-      → (get_or t.tasks k free_task).state ≡ x → end ≡ row_end x
+  pub task_next : (k many end : ℕ) (x : State) → k < 32 → many ≡ count (member_at t k) 16 → (get_or t.tasks k free_task).state ≡ x → end ≡ row_end x
       → gather (live_at t) (task_bytes t) k ++ (entry_bytes k x many ++ gather (member_at t k) (member_bytes t k) end)
       ≡ gather (live_at t) (task_bytes t) (k + 1)
   task_next k many end x h e s q =
       let state : state_at t k ≡ x = state_in t k h ∙ s in
       rw (
         ← state,
-        entry_row (member_at t k) (member_bytes t k) (number_bytes k) (state_bytes (state_at t k)) 16 end many (members_same k many h e)
+        entry_row (member_at t k) (member_bytes t k) (number_bytes k) (state_bytes (state_at t k)) 16 end many e
             (live_at t k) (rw state q),
       )
       (gather_next (live_at t) (task_bytes t) k)
 
   -- all of them
   pub sheet_done : (live k : ℕ) → k ≡ 32 → live ≡ count (live_in t.tasks) 32
-      → head_bytes (flagged t.opened 0) live ++ gather (live_at t) (task_bytes t) k ≡ sheet_of t
+      → head_bytes (flagged t.opened) live ++ gather (live_at t) (task_bytes t) k ≡ sheet_of t
   unfolding sheet_of
   sheet_done live k q e =
-      let opens = listed_same (flagged t.opened 0) (open_at t) number_bytes number_bytes 16 open_read (λ p h b. refl) in
+      let opens = listed_same (flagged t.opened) (open_at t) number_bytes number_bytes 16 open_read (λ p h b. refl) in
       let lives = e ∙ count_same (live_in t.tasks) (live_at t) 32 (λ i h. ap is_live (sym (state_in t i h))) in
       let tasks = listed_done (live_at t) (task_bytes t) 32 k live q lives in
-      three_parts (number_bytes 1) (listed (flagged t.opened 0) number_bytes 16) (number_bytes live) (gather (live_at t) (task_bytes t) k) opens tasks
+      three_parts (number_bytes 1) (listed (flagged t.opened) number_bytes 16) (number_bytes live) (gather (live_at t) (task_bytes t) k) opens tasks
     where
-      open_read : (p : ℕ) → p < 16 → flagged t.opened 0 p ≡ open_at t p
-      open_read p h = let z : 0 + p ≡ p = omega arith in rw z (sym (open_in_lem t p h))
+      open_read : (p : ℕ) → p < 16 → flagged t.opened p ≡ open_at t p
+      open_read p h = sym (open_in_lem t p h)

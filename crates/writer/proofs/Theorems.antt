@@ -9,7 +9,10 @@ use lib.Dec.{ltb}
 use lib.ListN.{length, take, drop}
 use lib.Seq.{take-append_seam, drop-append_seam}
 use borrow.Author.Tests.{ltb-true, ltb-false}
-use Rattle.answers.specs.Answers.{done, short_buffer, not_sound}
+use Rattle.std.specs.Prelude.{Result, Ok, Err}
+use Rattle.answers.specs.Answers.{done, short_buffer, not_sound, answer_of}
+use Rattle.answers.specs.declared.Refusal.{Refusal}
+use Rattle.answers.proofs.Numbers.{number_high, number_one}
 use Rattle.states.proofs.Truth.{clash}
 use Rattle.hall.specs.Parts.{sound_of}
 use Rattle.hall.specs.Sound.{Sound}
@@ -23,8 +26,7 @@ use Rattle.sheet.proofs.Numbers.{Bytes}
 use Rattle.sheet.proofs.Bytes.{sheet_bytes}
 use Rattle.sheet.proofs.Theorems.{accepts}
 use Rattle.writer.proofs.Answered.{long_enough}
-use Rattle.writer.specs.declared.writer.Written.{Written}
-use Rattle.writer.specs.Writer.{Wrote, wrote, laid_on, write_of}
+use Rattle.writer.specs.Writer.{Wrote, wrote, value_of, laid_on, write_of}
 
 -- ---- which answer there is: by the two tests, and with each what else is handed back
 pub data Way (t : Table) (b : List ℕ) : Wrote → Type 0 where
@@ -120,7 +122,7 @@ module _ (t : Table) (b : List ℕ) where
   pub longest_enough : Shaped t → longest_sheet ≤ length b → (write_of t b).answer ≡ short_buffer → ⊥
   longest_enough s h q =
       let n = short_answer.0 q in
-      omega (arith, n.1, long_enough t b ((sound_iff t).1 n.0) s h)
+      omega (arith, n.1, long_enough t (length b) ((sound_iff t).1 n.0) s h)
 
 -- "writing a table read from an accepted sheet gives the same bytes", or 43
 module _ (s : List ℕ) (eight : Bytes s) (t : Table) (b : List ℕ) (e : sheet_at s ≡ hands done t) where
@@ -144,9 +146,12 @@ module _ (s : List ℕ) (eight : Bytes s) (t : Table) (b : List ℕ) (e : sheet_
       go (whole x l) = absurd (omega (arith, rw its_sheet.1 at h, l))
 
 -- the promise allows one answer, one value and one content of the buffer
-pub written_one : (r r' : Written) {b b' : List ℕ} → wrote r.answer r.value b ≡ wrote r'.answer r'.value b'
+pub written_one : (r r' : Result ℕ Refusal) {b b' : List ℕ} → wrote (answer_of r) (value_of r) b ≡ wrote (answer_of r') (value_of r') b'
     → (r ≡ r') × (b ≡ b')
-written_one r r' e =
-    let answer = ap (λ (w : Wrote). w.answer) e in
-    let value = ap (λ (w : Wrote). w.value) e in
-    (λ i. record { answer = answer i; value = value i }, ap (λ (w : Wrote). w.buffer) e)
+written_one r r' e = (one r r' (ap (λ (w : Wrote). w.answer) e) (ap (λ (w : Wrote). w.value) e), ap (λ (w : Wrote). w.buffer) e)
+  where
+    one : (r r' : Result ℕ Refusal) → answer_of r ≡ answer_of r' → value_of r ≡ value_of r' → r ≡ r'
+    one (Ok n) (Ok n') a v = ap Ok v
+    one (Ok n) (Err x) a v = absurd (omega (arith, a, number_high x))
+    one (Err x) (Ok n) a v = absurd (omega (arith, a, number_high x))
+    one (Err x) (Err x') a v = ap Err (number_one x x' a)

@@ -1,32 +1,20 @@
 -- What the parts of the code hand each other; nobody need believe this file.
-use Rattle.std.specs.Prelude.{◌≡◌, Bool, false, cond, List, [], ◌∷◌, ◌++◌, ℕ, suc, ◌+◌, ltb, length, set, get_or}
+use Rattle.std.specs.Prelude.{◌≡◌, Bool, false, cond, List, [], ◌++◌, ℕ, ◌+◌, length, get_or}
+use Rattle.std.proofs.lemmas.List.Edits.{sets}
 use Rattle.states.specs.State.{is_live, free_task}
 use Rattle.states.specs.declared.state.State.{State}
 use Rattle.states.specs.declared.state.Task.{Task}
 use Rattle.fields.specs.Number.{number_bytes}
 use Rattle.sheet.specs.Written.{state_bytes, listed}
 
--- a byte stored where there is room for it: that is, below `room`
-abbrev pub stored : ℕ → List ℕ → ℕ → ℕ → List ℕ
-stored room buffer at byte = cond (ltb at room) (set buffer at byte) buffer
-
--- bytes laid from a place on, as far as there is room
-abbrev pub laid_from : ℕ → List ℕ → ℕ → List ℕ → List ℕ
-laid_from room buffer at [] = buffer
-laid_from room buffer at (byte ∷ bytes) = laid_from room (stored room buffer at byte) (suc at) bytes
-
--- from a place on bytes were laid, and the next place comes after them
-pub record Laid (room : ℕ) (before : List ℕ) (at : ℕ) (bytes after : List ℕ) (next : ℕ) : Type 0 where
+-- from a place on bytes were laid, as far as there is room, and the next place comes after them
+pub record Laid (before : List ℕ) (at : ℕ) (bytes after : List ℕ) (next : ℕ) : Type 0 where
   pub place : next ≡ at + length bytes
-  pub buffer : after ≡ laid_from room before at bytes
+  pub buffer : after ≡ sets before at bytes
 
--- one more, where it is there
-abbrev pub counted_of : ℕ → Bool → ℕ
-counted_of n there = cond there (n + 1) n
-
--- whether the flag at so many places from a place on is set
-abbrev pub flagged : List Bool → ℕ → ℕ → Bool
-flagged flags from p = get_or flags (from + p) false
+-- whether the flag at a place is set
+abbrev pub flagged : List Bool → ℕ → Bool
+flagged flags p = get_or flags p false
 
 -- whether a task of the list is live
 abbrev pub live_in : List Task → ℕ → Bool

@@ -1,6 +1,7 @@
 -- Document 02, M-100: "Write any sound table as a hall sheet into a lent buffer; the value is its length."
-use Rattle.std.specs.Prelude.{cond, List, ◌++◌, ℕ, ltb, length, drop}
+use Rattle.std.specs.Prelude.{cond, List, ◌++◌, ℕ, ltb, length, drop, Result, Ok, Err}
 use Rattle.answers.specs.Answers.{done, short_buffer, not_sound}
+use Rattle.answers.specs.declared.Refusal.{Refusal}
 use Rattle.hall.specs.Parts.{sound_of}
 use Rattle.hall.specs.declared.table.Table.{Table}
 use Rattle.sheet.specs.Written.{sheet_of}
@@ -13,6 +14,11 @@ pub record Wrote : Type 0 where
 
 abbrev pub wrote : ℕ → ℕ → List ℕ → Wrote
 wrote answer value buffer = record { answer = answer; value = value; buffer = buffer }
+
+-- the value of what is handed back: a length, or 0 beside a refusal
+abbrev pub value_of : Result ℕ Refusal → ℕ
+value_of (Ok length) = length
+value_of (Err refusal) = 0
 
 -- "Bytes after the sheet stay as they were."
 abbrev pub laid_on : List ℕ → List ℕ → List ℕ

@@ -1,5 +1,5 @@
 // A task's entry (document 01, "Fields"), laid into a buffer: its number, its state, how many memberships, and each of them.
-ghost use Rattle.std.specs.Prelude.{◌≡◌, ◌++◌, ◌≤◌, length};
+ghost use Rattle.std.specs.Prelude.{◌≡◌, ◌++◌, ◌≤◌};
 ghost use Rattle.fields.specs.Number.{number_bytes};
 ghost use Rattle.sheet.specs.Written.{state_bytes};
 ghost use Rattle.writer.specs.Parts.{Laid, if_there, entry_bytes, row_end};
@@ -7,17 +7,17 @@ ghost use Rattle.writer.specs.Parts.{Laid, if_there, entry_bytes, row_end};
 use crate::number::put;
 use states::state::{Phase, State};
 
-fn put_state(buffer: &mut [u8], room: usize, at: usize, state: State) -> usize
-    requires { (room ≤ length buffer.old) × (at ≤ 60000) }
-    ensures { Laid room buffer.old at (state_bytes state) buffer.new result }
+fn put_state(buffer: &mut [u8], at: usize, state: State) -> usize
+    requires { at ≤ 60000 }
+    ensures { Laid buffer.old at (state_bytes state) buffer.new result }
 {
     match state {
         State::Free => at,
-        State::Running => put(buffer, room, at, 0),
+        State::Running => put(buffer, at, 0),
         State::Blocked(event) => {
-            let awaited = put(buffer, room, at, 1);
-            let phased = put(buffer, room, awaited, event.phaser.0);
-            put(buffer, room, phased, event.phase.0 as u64)
+            let awaited = put(buffer, at, 1);
+            let phased = put(buffer, awaited, event.phaser.0);
+            put(buffer, phased, event.phase.0 as u64)
         }
     }
 }
@@ -25,19 +25,18 @@ fn put_state(buffer: &mut [u8], room: usize, at: usize, state: State) -> usize
 // What stands before the memberships; of a free task nothing.
 pub(crate) fn put_entry(
     buffer: &mut [u8],
-    room: usize,
     at: usize,
     number: u64,
     state: State,
     count: u64,
 ) -> usize
-    requires { (room ≤ length buffer.old) × (at ≤ 50000) }
-    ensures { Laid room buffer.old at (entry_bytes number state count) buffer.new result }
+    requires { at ≤ 50000 }
+    ensures { Laid buffer.old at (entry_bytes number state count) buffer.new result }
 {
     if state.is_live() {
-        let stated = put(buffer, room, at, number);
-        let counted = put_state(buffer, room, stated, state);
-        put(buffer, room, counted, count)
+        let stated = put(buffer, at, number);
+        let counted = put_state(buffer, stated, state);
+        put(buffer, counted, count)
     } else {
         at
     }
@@ -45,18 +44,17 @@ pub(crate) fn put_entry(
 
 pub(crate) fn put_membership(
     buffer: &mut [u8],
-    room: usize,
     at: usize,
     member: bool,
     phaser: u64,
     phase: Phase,
 ) -> usize
-    requires { (room ≤ length buffer.old) × (at ≤ 50000) }
-    ensures { Laid room buffer.old at (if_there member (number_bytes phaser ++ number_bytes phase.0)) buffer.new result }
+    requires { at ≤ 50000 }
+    ensures { Laid buffer.old at (if_there member (number_bytes phaser ++ number_bytes phase.0)) buffer.new result }
 {
     if member {
-        let phased = put(buffer, room, at, phaser);
-        put(buffer, room, phased, phase.0 as u64)
+        let phased = put(buffer, at, phaser);
+        put(buffer, phased, phase.0 as u64)
     } else {
         at
     }

@@ -4,7 +4,6 @@ ghost use Rattle.hall.specs.Calls.{call_of};
 ghost use Rattle.writer.specs.Next.{hands_over, stays, hand_on};
 
 use crate::writer::write_sound;
-use answers::DONE;
 use hall::calls::Call;
 use hall::table::Table;
 
@@ -39,14 +38,12 @@ pub fn call_and_write(table: Table, call: Call, next: &mut [u8]) -> SheetCalled
         return SheetCalled::refused(answer);
     }
     let after = called.table;
-    let written = write_sound(after, next);
-    let short = written.answer;
-    if short != DONE {
-        return SheetCalled::refused(short);
-    }
-    SheetCalled {
-        answer,
-        value: called.value,
-        length: written.value,
+    match write_sound(after, next) {
+        Ok(length) => SheetCalled {
+            answer,
+            value: called.value,
+            length,
+        },
+        Err(refusal) => SheetCalled::refused(refusal.number()),
     }
 }

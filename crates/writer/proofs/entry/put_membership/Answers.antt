@@ -1,12 +1,11 @@
 use native.Mathlib.Omega.{arith}
 use Rattle.writer.proofs.Laying.{laid_none, laid_both}
-use Rattle.writer.proofs.Putting.{number_ready}
+use Rattle.writer.proofs.Sheet.{number_ends}
 use Rattle.writer.specs.Parts.{if_there}
 use Rattle.writer.proofs.entry.put_membership.Goals as goal
 
 pub put-requires : goal.put-requires
-put-requires c =
-    number_ready _ 65536 c.put-phased.ensures c.requires.0 (omega (arith, c.requires.1))
+put-requires c = omega (arith, number_ends _ c.put-phased.ensures, c.requires)
 
 pub returns-then-member : goal.returns-then-member
 unfolding if_there
@@ -15,4 +14,4 @@ returns-then-member c =
 
 pub returns-else-member : goal.returns-else-member
 unfolding if_there
-returns-else-member c = rw c.if-member.false (laid_none _ _ _)
+returns-else-member c = rw c.if-member.false (laid_none _ _)

@@ -1,6 +1,5 @@
 -- The open phasers below p are laid, ten bytes each at most.
-use Prim.Native.Nat.{◌+◌, ◌*◌, ◌-◌, ◌≤◌}
-use lib.ListN.{length}
+use Prim.Native.Nat.{◌+◌, ◌*◌, ◌≤◌}
 use Rattle.fields.specs.Number.{number_bytes}
 use Rattle.sheet.specs.Written.{gather}
 use Rattle.writer.specs.Parts.{Laid, flagged}
@@ -8,8 +7,4 @@ use Rattle.writer.proofs.head.put_head.Given as goal
 
 abbrev pub invariant-loop-p : goal.invariant-loop-p
 invariant-loop-p l =
-    (l.p ≤ 16) × Laid l.room l.initial.buffer l.initial.at (gather (flagged l.opened 0) number_bytes l.p) l.buffer l.at × (l.room ≤ length l.buffer) ×
-    (l.at ≤ 20 + 10 * l.p)
-
-abbrev pub decreases-loop-p : goal.decreases-loop-p
-decreases-loop-p l = 16 - l.p
+    Laid l.initial.buffer l.initial.at (gather (flagged l.opened) number_bytes l.p) l.buffer l.at × (l.at ≤ 20 + 10 * l.p)

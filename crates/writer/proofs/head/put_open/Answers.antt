@@ -8,4 +8,4 @@ returns-then-opened c = rw c.if-opened.true c.put.ensures
 
 pub returns-else-opened : goal.returns-else-opened
 unfolding if_there
-returns-else-opened c = rw c.if-opened.false (laid_none _ _ _)
+returns-else-opened c = rw c.if-opened.false (laid_none _ _)

@@ -1,8 +1,10 @@
 -- The call's refusal, 43; else what the writer laid is the next table's sheet.
-use mathlib.Core.Path.{◌≡◌, sym, ap, ◌∙◌}
+use mathlib.Core.Path.{◌≡◌, refl, sym, ap, ◌∙◌}
 use mathlib.Core.Bool.{true}
 use Prim.Native.Nat.{◌<◌}
 use native.Mathlib.Omega.{arith}
+use Rattle.answers.specs.Answers.{done, number_of}
+use Rattle.answers.proofs.Numbers.{number_high}
 use Rattle.hall.specs.Calls.{call_of}
 use Rattle.hall.specs.Parts.{sound_of}
 use Rattle.hall.specs.declared.calls.Called.{Called}
@@ -32,24 +34,21 @@ on_sent : (c : Else-answer-ge10)
     → hand_on (call_of c.args.table c.args.call) c.args.next.now
     ≡ sent c.call-called.result c.args.next.now
 on_sent c =
-    let on_call : hand_on (call_of c.args.table c.args.call) c.args.next.now ≡ hand_on c.call-called.result c.args.next.now = ap
-    (λ (r : Called). hand_on r c.args.next.now) (sym c.call-called.ensures) in
-    on_call ∙ accepted_handed c.call-called.result _ (accepted c)
+    rw (← c.call-called.ensures) (accepted_handed c.call-called.result _ (accepted c))
 
-pub write_sound-written-requires : goal.write_sound-written-requires
-write_sound-written-requires c = sound (goal.at.write_sound-written-requires c).Else-answer-ge10
+pub write_sound-requires : goal.write_sound-requires
+write_sound-requires c = sound (goal.at.write_sound-requires c).Else-answer-ge10
 
-pub returns-then-short-ne-DONE : goal.returns-then-short-ne-DONE
-returns-then-short-ne-DONE c =
-    c.refused-then-short-ne-DONE.ensures _
-    ∙ sym (on_sent (goal.at.returns-then-short-ne-DONE c).Else-answer-ge10
-    ∙ short_sent c.call-called.result _ (sound (goal.at.returns-then-short-ne-DONE c).Else-answer-ge10) (wrote c.write_sound-written.result.answer _ _)
-    c.write_sound-written.ensures
-    (λ e. omega (arith, e, c.if-short-ne-DONE.true)))
+pub returns-in-Ok : goal.returns-in-Ok
+returns-in-Ok c =
+    let after = (goal.at.returns-in-Ok c).Else-answer-ge10 in
+    sym (on_sent after ∙ whole_sent c.call-called.result _ (sound after) (wrote done c.in-Ok.length _) c.in-Ok.ensures refl)
 
-pub returns : goal.returns
-returns c =
-    sym (on_sent (goal.at.returns c).Else-answer-ge10
-    ∙ whole_sent c.call-called.result _ (sound (goal.at.returns c).Else-answer-ge10) (wrote c.write_sound-written.result.answer _ _)
-    c.write_sound-written.ensures
-    (omega (arith, c.if-short-ne-DONE.false)))
+pub returns-in-Err : goal.returns-in-Err
+returns-in-Err c =
+    let after = (goal.at.returns-in-Err c).Else-answer-ge10 in
+    c.refused-in-Err.ensures _
+    ∙ rw c.number.ensures
+    (sym (on_sent after
+    ∙ short_sent c.call-called.result _ (sound after) (wrote (number_of c.in-Err.refusal) 0 _) c.in-Err.ensures
+    (λ e. omega (arith, e, number_high c.in-Err.refusal))))

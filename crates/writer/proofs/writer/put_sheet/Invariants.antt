@@ -1,6 +1,5 @@
 -- The tasks before k are laid, 370 bytes each at most; and of task k the memberships at the phasers before p, 20 bytes each at most.
-use Prim.Native.Nat.{◌+◌, ◌*◌, ◌-◌, ◌≤◌}
-use lib.ListN.{length}
+use Prim.Native.Nat.{◌+◌, ◌*◌, ◌≤◌}
 use Rattle.hall.specs.Table.{member_at}
 use Rattle.sheet.specs.Written.{gather, member_bytes, task_bytes, live_at}
 use Rattle.writer.specs.Parts.{Laid}
@@ -8,16 +7,7 @@ use Rattle.writer.proofs.writer.put_sheet.Given as goal
 
 abbrev pub invariant-loop-p : goal.invariant-loop-p
 invariant-loop-p l =
-    (l.p ≤ l.end) × (l.end ≤ 16) × Laid l.room l.initial.buffer l.initial.at (gather (member_at l.table l.k) (member_bytes l.table l.k) l.p) l.buffer l.at
-    × (l.room ≤ length l.buffer) × (l.at ≤ 240 + 370 * l.k + 20 * l.p)
-
-abbrev pub decreases-loop-p : goal.decreases-loop-p
-decreases-loop-p l = l.end - l.p
+    Laid l.initial.buffer l.initial.at (gather (member_at l.table l.k) (member_bytes l.table l.k) l.p) l.buffer l.at × (l.at ≤ 240 + 370 * l.k + 20 * l.p)
 
 abbrev pub invariant-loop-k : goal.invariant-loop-k
-invariant-loop-k l =
-    (l.k ≤ 32) × Laid l.room l.initial.buffer l.initial.at (gather (live_at l.table) (task_bytes l.table) l.k) l.buffer l.at × (l.room ≤ length l.buffer) ×
-    (l.at ≤ 190 + 370 * l.k)
-
-abbrev pub decreases-loop-k : goal.decreases-loop-k
-decreases-loop-k l = 32 - l.k
+invariant-loop-k l = Laid l.initial.buffer l.initial.at (gather (live_at l.table) (task_bytes l.table) l.k) l.buffer l.at × (l.at ≤ 190 + 370 * l.k)
