@@ -1,10 +1,9 @@
 -- A verdict's lines: the tasks of a set, one more at a time; the ring's places; what is printed on answer 0 and on a refusal.
 use mathlib.Core.Path.{◌≡◌, refl}
-use mathlib.Core.List.{List, [], ◌∷◌, ◌++◌, append-nil}
-use Prim.Native.Nat.{ℕ, zero, suc, ◌+◌, min}
-use native.Mathlib.Nat.{zero-min, min-zero, suc-min-suc}
+use mathlib.Core.List.{[], ◌∷◌, ◌++◌, append-nil}
+use Prim.Native.Nat.{ℕ, ◌+◌}
 use native.Mathlib.Numerals.{add-one}
-use lib.ListN.{length, take}
+use lib.ListN.{take}
 use borrow.Author.Tests.{eq-eqb, ne_eqb}
 use Rattle.sets.specs.Set.{bit, Has}
 use Rattle.answers.specs.Answers.{done}
@@ -22,11 +21,6 @@ task_away m k h = rw (ne_eqb (bit m k) 1 h) refl
 pub tasks_more : (m n : ℕ) → numbered (tasks_in m (n + 1)) ≡ numbered (tasks_in m n) ++ numbered (task_in m n)
 unfolding tasks_in
 tasks_more m n = rw (add-one, numbered_append) refl
-
-pub take_min : (n : ℕ) (l : List ℕ) → take (min n (length l)) l ≡ take n l
-take_min zero l = rw zero-min refl
-take_min (suc n) [] = rw min-zero refl
-take_min (suc n) (a ∷ l) = rw (suc-min-suc, take_min n l) refl
 
 module _ (v : Verdict) where
   pub text_done : v.answer ≡ done

@@ -34,7 +34,7 @@ pub fn sheet_line(nth: u64, counted: Counted) -> Text
 {
     let sheet = Text::empty().word(b"sheet").number(nth);
     if counted.answer != 0 {
-        return worded(sheet, b"refused", counted.answer as u64).byte(b'\n');
+        return worded(sheet, b"refused", u64::from(counted.answer)).byte(b'\n');
     }
     density_words(sheet, counted.density).byte(b'\n')
 }
@@ -54,6 +54,6 @@ pub fn stopped_line(number: u32) -> Text
 {
     Text::empty()
         .word(b"stopped")
-        .number(number as u64)
+        .number(u64::from(number))
         .byte(b'\n')
 }

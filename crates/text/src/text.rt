@@ -23,27 +23,21 @@ impl Text {
     pub(crate) fn byte(self, byte: u8) -> Text
         ensures { Adds self (byte ∷ []) result }
     {
-        let at = self.length;
+        let mut text = self;
+        let at = text.length;
         if at < 256 {
-            let mut bytes = self.bytes;
-            bytes[at] = byte;
-            Text {
-                bytes,
-                length: at + 1,
-            }
-        } else {
-            self
+            text.bytes[at] = byte;
+            text.length = at + 1;
         }
+        text
     }
 
     pub(crate) fn word(self, word: &[u8]) -> Text
         ensures { Adds self word.now result }
     {
         let mut text = self;
-        let mut i: usize = 0;
-        while i < word.len() {
-            text = text.byte(word[i]);
-            i += 1;
+        for &byte in word {
+            text = text.byte(byte);
         }
         text
     }

@@ -1,5 +1,5 @@
 // What `sheetverdict` prints of a verdict (document 01, 'The hall sheet').
-ghost use Rattle.std.specs.Prelude.{◌≡◌, [], ◌∷◌, ◌≤◌, min, length, take};
+ghost use Rattle.std.specs.Prelude.{◌≡◌, [], ◌∷◌, ◌≤◌, length, take};
 ghost use Rattle.text.specs.Parts.{Adds};
 ghost use Rattle.text.specs.Text.{line, numbered, text_with};
 ghost use Rattle.text.specs.Verdict.{answer_word, named_word, ring_word, task_in, tasks_in, verdict_text};
@@ -10,7 +10,7 @@ use judge::verdict::Verdict;
 fn answer_line(text: Text, answer: u32) -> Text
     ensures { Adds text (line answer_word (answer ∷ [])) result }
 {
-    text.word(b"answer").number(answer as u64).byte(b'\n')
+    text.word(b"answer").number(u64::from(answer)).byte(b'\n')
 }
 
 // The task's number, where the task is in the set.
@@ -28,34 +28,20 @@ fn named_line(text: Text, named: u32) -> Text
     ensures { Adds text (line named_word (tasks_in named 32)) result }
 {
     let mut next = text.word(b"named");
-    for task in 0..32usize {
+    for task in 0..32 {
         next = task_in(next, named, task);
     }
     next.byte(b'\n')
-}
-
-fn widen(task: u8) -> u64
-    ensures { result ≡ task }
-{
-    task as u64
-}
-
-fn lesser(a: u32, b: u32) -> u32
-    ensures { result ≡ min a b }
-{
-    if a < b { a } else { b }
 }
 
 fn ring_line(text: Text, verdict: Verdict) -> Text
     ensures { Adds text (line ring_word (take verdict.length verdict.ring)) result }
 {
     let ring = verdict.ring;
-    let end = lesser(verdict.length, 32) as usize;
+    let end = verdict.length.min(32) as usize;
     let mut next = text.word(b"ring");
-    let mut place: usize = 0;
-    while place < end {
-        next = next.number(widen(ring[place]));
-        place += 1;
+    for &task in &ring[..end] {
+        next = next.number(u64::from(task));
     }
     next.byte(b'\n')
 }

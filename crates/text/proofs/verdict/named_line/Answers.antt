@@ -1,4 +1,3 @@
-use borrow.Author.Rules.{rules}
 use Rattle.text.specs.Text.{numbered}
 use Rattle.text.specs.Verdict.{tasks_in}
 use Rattle.text.proofs.Said.{adds_none, adds_both}
@@ -7,7 +6,7 @@ use Rattle.text.proofs.verdict.named_line.Goals as goal
 
 pub loop-task-init : goal.loop-task-init
 unfolding numbered tasks_in
-loop-task-init c = (search rules, adds_none _)
+loop-task-init c = adds_none _
 
 pub loop-task-preserved : goal.loop-task-preserved
-loop-task-preserved c = (search rules, rw tasks_more (adds_both c.loop-task.invariant.1 c.task_in-next.ensures))
+loop-task-preserved c = rw tasks_more (adds_both c.loop-task.invariant c.task_in-next.ensures)

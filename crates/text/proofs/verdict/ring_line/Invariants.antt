@@ -1,12 +1,8 @@
--- The invariant: after the word, the first `place` of the ring's places.
-use Prim.Native.Nat.{◌-◌, ◌≤◌}
+-- The invariant: after the word, the ring's places so far.
 use lib.ListN.{take}
 use Rattle.text.specs.Parts.{Adds}
 use Rattle.text.specs.Text.{numbered}
 use Rattle.text.proofs.verdict.ring_line.Given as goal
 
-abbrev pub invariant-loop-place : goal.invariant-loop-place
-invariant-loop-place l = (l.place ≤ l.end) × Adds l.initial.next (numbered (take l.place l.ring)) l.next
-
-abbrev pub decreases-loop-place : goal.decreases-loop-place
-decreases-loop-place l = l.end - l.place
+abbrev pub invariant-loop-task : goal.invariant-loop-task
+invariant-loop-task l = Adds l.initial.next (numbered (take l.task-index l.task-items)) l.next

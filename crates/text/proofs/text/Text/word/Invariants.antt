@@ -1,11 +1,7 @@
--- The invariant: of the word, the first i bytes are added.
-use Prim.Native.Nat.{◌-◌, ◌≤◌}
-use lib.ListN.{length, take}
+-- The invariant: of the word, the first bytes are added.
+use lib.ListN.{take}
 use Rattle.text.specs.Parts.{Adds}
 use Rattle.text.proofs.text.Text.word.Given as goal
 
-abbrev pub invariant-loop-i : goal.invariant-loop-i
-invariant-loop-i l = (l.i ≤ length l.word) × Adds l.initial.text (take l.i l.word) l.text
-
-abbrev pub decreases-loop-i : goal.decreases-loop-i
-decreases-loop-i l = length l.word - l.i
+abbrev pub invariant-loop-byte : goal.invariant-loop-byte
+invariant-loop-byte l = Adds l.initial.text (take l.byte-index l.word) l.text
