@@ -1,7 +1,11 @@
 // What is counted of a sheet.
-ghost use Rattle.sheet_file.specs.Counted.{CountedOf};
+ghost use Rattle.std.specs.Prelude.{◌≡◌};
+ghost use Rattle.sheet_file.specs.Counted.{CountedOf, no_density};
 
+use answers::DONE;
 use density::density::{Density, density_of};
+use hall::table::Table;
+use sheet::reader::read;
 
 // The reader's answer, and the density of the sheet's table.
 #[derive(Clone, Copy)]
@@ -10,25 +14,31 @@ pub struct Counted {
     pub density: Density,
 }
 
+// No blocked task, no awaited event, no edge.
+pub(crate) fn no_density() -> Density
+    ensures { result ≡ no_density }
+{
+    Density {
+        blocked: 0,
+        events: 0,
+        task_edges: 0,
+        event_edges: 0,
+        task_event_edges: 0,
+    }
+}
+
 pub fn count(sheet: &[u8]) -> Counted
     ensures { CountedOf sheet.now result }
 {
-    let mut answer: u32 = 0;
-    let table = sheet::reader::read(sheet, &mut answer);
-    if answer != 0 {
-        return Counted {
-            answer,
-            density: Density {
-                blocked: 0,
-                events: 0,
-                task_edges: 0,
-                event_edges: 0,
-                task_event_edges: 0,
-            },
-        };
-    }
-    Counted {
-        answer,
-        density: density_of(table),
+    let mut table = Table::fresh();
+    match read(sheet, &mut table) {
+        Ok(()) => Counted {
+            answer: DONE,
+            density: density_of(table),
+        },
+        Err(refusal) => Counted {
+            answer: refusal.number(),
+            density: no_density(),
+        },
     }
 }

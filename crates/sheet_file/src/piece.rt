@@ -3,7 +3,7 @@ ghost use Rattle.std.specs.Prelude.{◌≡◌, ◌≤◌, length};
 ghost use Rattle.sheet_file.specs.Piece.{piece_of};
 ghost use Rattle.sheet_file.specs.Parts.{wanted_of, largest_piece};
 
-use answers::{BYTES_AFTER, ENDS_INSIDE};
+use answers::Refusal;
 use fields::number::{Number, read};
 
 // "A length is at most 4,096"
@@ -14,7 +14,7 @@ pub const MOST_SHEETS: u64 = 1_000;
 pub const LARGEST_PIECE: usize = 4_099;
 
 // A sheet, from its first byte to the one after its last; a fault that stops the run; the file's end.
-#[derive(Clone, Copy)]
+#[derive(Clone, Copy, Debug, PartialEq, Eq)]
 pub enum Piece {
     Sheet(usize, usize),
     Stopped(u32),
@@ -25,20 +25,20 @@ pub enum Piece {
 pub fn next_piece(bytes: &[u8], done: u64) -> Piece
     ensures { result ≡ piece_of bytes.now done }
 {
-    if bytes.len() == 0 {
+    if bytes.is_empty() {
         return Piece::Ended;
     }
     if MOST_SHEETS <= done {
-        return Piece::Stopped(BYTES_AFTER);
+        return Piece::Stopped(Refusal::BytesAfter.number());
     }
     match read(bytes, LARGEST_LENGTH, 0) {
-        Number::Refused(refusal) => Piece::Stopped(refusal),
+        Number::Refused(refusal) => Piece::Stopped(refusal.number()),
         Number::Value(length, from) => {
             let to = from + length as usize;
             if to <= bytes.len() {
                 Piece::Sheet(from, to)
             } else {
-                Piece::Stopped(ENDS_INSIDE)
+                Piece::Stopped(Refusal::EndsInside.number())
             }
         }
     }
@@ -51,14 +51,11 @@ pub fn wanted(bytes: &[u8]) -> usize
     ensures fits { length bytes.now ≤ largest_piece → result ≤ largest_piece }
 {
     match read(bytes, LARGEST_LENGTH, 0) {
-        Number::Refused(refusal) => {
-            if refusal == ENDS_INSIDE {
-                bytes.len() + 1
-            } else {
-                bytes.len()
-            }
-        }
         Number::Value(length, from) => from + length as usize,
+        Number::Refused(refusal) => match refusal {
+            Refusal::EndsInside => bytes.len() + 1,
+            _ => bytes.len(),
+        },
     }
 }
 

@@ -2,9 +2,9 @@
 ghost use Rattle.std.specs.Prelude.{◌≡◌};
 ghost use Rattle.sheet_file.specs.Totals.{no_totals, done_of, sum_of_densities, totals_with};
 
-use crate::counted::Counted;
+use crate::counted::{Counted, no_density};
+use answers::DONE;
 use density::density::Density;
-use std::num::wrapping_add_u64;
 
 // How many sheets were accepted, and how many refused; the sums of the accepted ones' densities.
 #[derive(Clone, Copy)]
@@ -14,15 +14,15 @@ pub struct Totals {
     pub density: Density,
 }
 
-fn sum_of_densities(total: Density, density: Density) -> Density
-    ensures { result ≡ sum_of_densities total density }
+fn sum_of_densities(a: Density, b: Density) -> Density
+    ensures { result ≡ sum_of_densities a b }
 {
     Density {
-        blocked: wrapping_add_u64(total.blocked, density.blocked),
-        events: wrapping_add_u64(total.events, density.events),
-        task_edges: wrapping_add_u64(total.task_edges, density.task_edges),
-        event_edges: wrapping_add_u64(total.event_edges, density.event_edges),
-        task_event_edges: wrapping_add_u64(total.task_event_edges, density.task_event_edges),
+        blocked: a.blocked.wrapping_add(b.blocked),
+        events: a.events.wrapping_add(b.events),
+        task_edges: a.task_edges.wrapping_add(b.task_edges),
+        event_edges: a.event_edges.wrapping_add(b.event_edges),
+        task_event_edges: a.task_event_edges.wrapping_add(b.task_event_edges),
     }
 }
 
@@ -33,13 +33,7 @@ impl Totals {
         Totals {
             sheets: 0,
             refused: 0,
-            density: Density {
-                blocked: 0,
-                events: 0,
-                task_edges: 0,
-                event_edges: 0,
-                task_event_edges: 0,
-            },
+            density: no_density(),
         }
     }
 
@@ -47,18 +41,16 @@ impl Totals {
     pub fn with(self, counted: Counted) -> Totals
         ensures { result ≡ totals_with self counted }
     {
-        let total = self.density;
-        if counted.answer != 0 {
+        if counted.answer != DONE {
             return Totals {
-                sheets: self.sheets,
-                refused: wrapping_add_u64(self.refused, 1),
-                density: total,
+                refused: self.refused.wrapping_add(1),
+                ..self
             };
         }
         Totals {
-            sheets: wrapping_add_u64(self.sheets, 1),
-            refused: self.refused,
-            density: sum_of_densities(total, counted.density),
+            sheets: self.sheets.wrapping_add(1),
+            density: sum_of_densities(self.density, counted.density),
+            ..self
         }
     }
 
@@ -66,6 +58,6 @@ impl Totals {
     pub fn done(self) -> u64
         ensures { result ≡ done_of self }
     {
-        wrapping_add_u64(self.sheets, self.refused)
+        self.sheets.wrapping_add(self.refused)
     }
 }
