@@ -1,1 +1,2 @@
 pub mod Call
+pub mod Parts

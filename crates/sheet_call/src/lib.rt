@@ -7,9 +7,11 @@ ghost use Rattle.hall.specs.Table.{fresh_table};
 ghost use Rattle.sheet.specs.Written.{sheet_of};
 ghost use Rattle.writer.specs.Next.{hands_over};
 ghost use Rattle.sheet_call.specs.Call.{sheet_call_of};
+ghost use Rattle.sheet_call.specs.Parts.{handed};
 
-use answers::{DONE, NO_KIND};
+use answers::Refusal;
 use hall::calls::{Call, KINDS};
+use hall::table::Table;
 use sheet::reader::read;
 use writer::next::{SheetCalled, call_and_write};
 
@@ -24,18 +26,15 @@ fn fresh_sheet() -> [u8; 3]
 }
 
 // The call on a sheet's table, and the sheet of the table that it leaves.
-fn call_on(sheet: &[u8], call: Call, next: &mut [u8]) -> SheetCalled
-    ensures { hands_over result.answer result.value result.length next.new ≡ sheet_call_of sheet.now call next.old }
+fn call_on(sheet: &[u8], call: Call, next: &mut [u8]) -> Result<SheetCalled, Refusal>
+    ensures { handed result next.new ≡ sheet_call_of sheet.now call next.old }
 {
     if call.kind >= KINDS {
-        return SheetCalled::refused(NO_KIND);
+        return Err(Refusal::NoKind);
     }
-    let mut fault: u32 = 0;
-    let table = read(sheet, &mut fault);
-    if fault != DONE {
-        return SheetCalled::refused(fault);
-    }
-    call_and_write(table, call, next)
+    let mut table = Table::fresh();
+    read(sheet, &mut table)?;
+    Ok(call_and_write(table, call, next))
 }
 
 // One lent slice is read as the sheet of a table; where the call is accepted, the other then begins with the next table's sheet. `sort` is not looked at:
@@ -54,16 +53,16 @@ pub fn sheet_call(
     ensures { hands_over result value.new length.new next.new
         ≡ sheet_call_of sheet.now (call kind task phaser other) next.old }
 {
-    let called = call_on(
-        sheet,
-        Call {
-            kind,
-            task,
-            phaser,
-            other,
-        },
-        next,
-    );
+    let call = Call {
+        kind,
+        task,
+        phaser,
+        other,
+    };
+    let called = match call_on(sheet, call, next) {
+        Ok(called) => called,
+        Err(refusal) => SheetCalled::refused(refusal.number()),
+    };
     *value = called.value;
     *length = called.length;
     called.answer
