@@ -25,7 +25,7 @@ use Rattle.judge.proofs.Twins.{rows_of, named_in, ring_in, round_in, judge_of, j
 use Rattle.judge.specs.Routes.{largest_route}
 use Rattle.fields.specs.Got.{each}
 use Rattle.sheet.specs.Head.{open_step, opens_at, count_at, lists_at, head_at}
-use Rattle.sheet.specs.Entry.{phase_on, event_at, blocked_at, state_on, count_on, entry_on, entry_at, membership_at}
+use Rattle.sheet.specs.Entry.{phase_on, event_at, blocked_at, state_on, count_on, entry_on, entry_at}
 use Rattle.sheet.specs.Reader.{member_step, members_at, task_step, tasks_at, entries_at, table_at, sheet_at}
 use Rattle.fields.specs.Number.{plain_at, number_at, rising_at}
 use Rattle.sheet.proofs.Examples.{p4}
@@ -57,7 +57,7 @@ unfolding strip_of judge_of sound_of entries_sound states_sound every state_at o
     table_at head_at
     lists_at count_at opens_at open_step each entries_at tasks_at task_step entry_at entry_on state_on blocked_at event_at phase_on count_on members_at
     member_step
-    membership_at plain_at number_at rising_at
+    plain_at number_at rising_at
 p4_strip = computed p4 refl refl
 
 -- "Nobody named: all zeros, then 255s"

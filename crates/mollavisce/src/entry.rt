@@ -2,7 +2,7 @@
 ghost use Rattle.mollavisce.specs.Entry.{Entered};
 ghost use Rattle.judge.specs.OfSheet.{VerdictOf};
 
-use answers::{NO_ROUTE, SHORT_STRIP};
+use answers::{DONE, Refusal};
 use judge::judge::LARGEST_ROUTE;
 use judge::verdict::Verdict;
 
@@ -18,16 +18,16 @@ pub fn sheet_verdict(sheet: &[u8], route: u64, strip: &mut [u8]) -> u32
     ensures { Entered sheet.now route strip.old strip.new result }
 {
     if LARGEST_ROUTE < route {
-        return NO_ROUTE;
+        return Refusal::NoRoute.number();
     }
     if strip.len() < 38 {
-        return SHORT_STRIP;
+        return Refusal::ShortStrip.number();
     }
     let verdict = verdict_of(sheet, route);
     let answer = verdict.answer;
-    if answer != 0 {
+    if answer != DONE {
         return answer;
     }
     crate::strip::lay(strip, verdict);
-    0
+    DONE
 }

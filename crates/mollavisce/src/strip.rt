@@ -8,15 +8,8 @@ fn head(verdict: Verdict) -> [u8; 6]
     requires { (verdict.count < 256) × (verdict.length < 256) }
     ensures { result ≡ head_of verdict }
 {
-    let named = verdict.named;
-    [
-        (named % 256) as u8,
-        (named / 256 % 256) as u8,
-        (named / 65536 % 256) as u8,
-        (named / 16777216 % 256) as u8,
-        verdict.count as u8,
-        verdict.length as u8,
-    ]
+    let [a, b, c, d] = verdict.named.to_le_bytes();
+    [a, b, c, d, verdict.count as u8, verdict.length as u8]
 }
 
 // The strip with the verdict's bytes for its first 38.

@@ -8,29 +8,29 @@ use Rattle.mollavisce.specs.Strip.{strip_after}
 use Rattle.mollavisce.proofs.Fits.{sheet_fits}
 use Rattle.mollavisce.proofs.entry.sheet_verdict.Goals as goal
 
-pub returns-then-answer-ne0 : goal.returns-then-answer-ne0
+pub returns-then-answer-ne-DONE : goal.returns-then-answer-ne-DONE
 unfolding strip_after
-returns-then-answer-ne0 c =
+returns-then-answer-ne-DONE c =
     record {
       no_route = λ l. absurd (omega arith);
       short = λ _ l. absurd (omega arith);
       judged = λ _ _.
           let v = c.verdict_of-verdict in
-          let refused : v.result.answer ≡ done → ⊥ = λ e. omega (arith, e, c.if-answer-ne0.true) in
+          let refused : v.result.answer ≡ done → ⊥ = λ e. omega (arith, e, c.if-answer-ne-DONE.true) in
           (v.result, v.ensures, refl, rw (ne_eqb v.result.answer done refused) refl);
     }
 
 pub lay-requires : goal.lay-requires
 lay-requires c =
     let v = c.verdict_of-verdict in
-    let fits = sheet_fits _ _ v.result v.ensures (omega (arith, c.if-answer-ne0.false)) in
+    let fits = sheet_fits _ _ v.result v.ensures (omega (arith, c.if-answer-ne-DONE.false)) in
     (search rules, fits.count, fits.ring_length)
 
 pub returns : goal.returns
 unfolding strip_after
 returns c =
     let v = c.verdict_of-verdict in
-    let answered : v.result.answer ≡ done = omega (arith, c.if-answer-ne0.false) in
+    let answered : v.result.answer ≡ done = omega (arith, c.if-answer-ne-DONE.false) in
     record {
       no_route = λ l. absurd (omega arith);
       short = λ _ l. absurd (omega arith);
