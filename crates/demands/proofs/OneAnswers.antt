@@ -1,5 +1,11 @@
 -- Each public promise allows one answer.
 use mathlib.Core.Path.{◌≡◌, refl, ap, sym, ◌∙◌, subst}
+use native.Mathlib.Omega.{arith}
+use Rattle.std.proofs.Common.{Result, Ok, Err}
+use Rattle.std.proofs.lemmas.Result.{IfOk-at_ok}
+use Rattle.answers.specs.Answers.{answer_of}
+use Rattle.answers.specs.declared.Refusal.{Refusal}
+use Rattle.answers.proofs.Numbers.{number_high, number_one}
 use mathlib.Core.List.{List, []}
 use Prim.Native.Nat.{ℕ}
 use Rattle.sets.specs.Set.{Has}
@@ -48,14 +54,19 @@ use Rattle.demands.proofs.writing.rewrite.Reads as own_rewrite
 both : {A : Type 0} {x y z : A} → x ≡ z → y ≡ z → x ≡ y
 both p q = p ∙ sym q
 
--- what is read with its blocked tasks
-blocked_read_one : (t u : Table) {answer answer' m n : ℕ} → hands answer t ≡ hands answer' u → BlockedSet t m → BlockedSet u n
-    → (t ≡ u) × (◌≡◌ {A = ℕ × ℕ} (answer, m) (answer', n))
-blocked_read_one t u {m = m} {n = n} same x y =
+-- two results with one answer, and one value where they are accepted
+result_one : {A : Type 0} (r r' : Result A Refusal) → answer_of r ≡ answer_of r' → ((a b : A) → r ≡ Ok a → r' ≡ Ok b → a ≡ b) → r ≡ r'
+result_one (Ok a) (Ok b) e h = ap Ok (h a b refl refl)
+result_one (Ok a) (Err y) e h = absurd (omega (arith, e, number_high y))
+result_one (Err x) (Ok b) e h = absurd (omega (arith, e, number_high x))
+result_one (Err x) (Err y) e h = ap Err (number_one x y e)
+
+-- what is read: the table, and whatever an accepted sheet's table fixes
+read_one_lem : {A : Type 0} (r r' : Result A Refusal) {t u : Table} → hands (answer_of r) t ≡ hands (answer_of r') u
+    → ((a b : A) → t ≡ u → r ≡ Ok a → r' ≡ Ok b → a ≡ b) → (r ≡ r') × (t ≡ u)
+read_one_lem r r' same h =
     let table = ap (λ (s : Sheet). s.table) same in
-    let answer = ap (λ (s : Sheet). s.answer) same in
-    let blocked = blocked_one u m n (subst (λ v. BlockedSet v m) table x) y in
-    (table, λ i. (answer i, blocked i))
+    (result_one r r' (ap (λ (s : Sheet). s.answer) same) (λ a b. h a b table), table)
 
 -- some table that has these tasks
 abbrev with_tasks : List Task → Table
@@ -150,14 +161,13 @@ one_answer = record {
     λ κ a r r' e e' p q. one_number r r' (both p q),
     λ κ a r r' e e' p q. one_number r r' (both p q),
     λ κ a r r' e e' p q. one_number r r' (both p q),
-    λ κ a r r' e e'. both,
-    λ κ a r r' e e'. both,
-    λ κ a r r' e e'. both,
-    λ κ a r r' e e'. both,
+    λ κ a r r' e e' p q. result_one r r' (both p q) (λ x y i j. refl),
   );
   sheet = (
-    λ κ a r r' e e' p q. blocked_read_one r r' (both p.0 q.0) p.1 q.1,
-    λ κ a r r' e e' p q. (ap (λ (s : Sheet). s.table) (both p q), ap (λ (s : Sheet). s.answer) (both p q)),
+    λ κ a r r' e e' p q.
+        read_one_lem r r' (both p.0 q.0)
+        (λ x y t i j. blocked_one _ x y (subst (λ v. BlockedSet v x) t (IfOk-at_ok (BlockedSet _) i p.1)) (IfOk-at_ok (BlockedSet _) j q.1)),
+    λ κ a r r' e e' p q. read_one_lem r r' (both p q) (λ x y t i j. refl),
   );
   sheet_file = (
     λ κ a r r' e e'. counted_one _ r r',
@@ -201,14 +211,12 @@ verdicts_one κ a r r' e e' p q =
 
 pub routes_one : One own_routes.Learnt
 routes_one κ a r r' e e' p q =
-    let tasks = same_members _ r.tasks r'.tasks p.stuck q.stuck in
+    let tasks = same_members _ r.0 r'.0 p.stuck q.stuck in
     let events = sym p.same ∙ tasks ∙ q.same in
-    λ i. record { tasks = tasks i; events = events i }
+    λ i. (tasks i, events i)
 
 pub read_one : OneLent (λ κ e. e.1.0.now) own_read.Learnt
-read_one κ a r r' e e' p q =
-    let same = both p.is q.is in
-    (ap (λ (s : Sheet). s.table) same, ap (λ (s : Sheet). s.answer) same)
+read_one κ a r r' e e' p q = read_one_lem r r' (both p.is q.is) (λ x y t i j. refl)
 
 pub verdict_of_one : One own_verdict_of.Learnt
 verdict_of_one κ a r r' e e' p q = sheet_judged_one _ a.1.0 r r' p.is q.is

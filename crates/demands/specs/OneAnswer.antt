@@ -72,9 +72,6 @@ use Rattle.text.proofs.densities.stopped_line.Reads as text_stopped_line
 use Rattle.fields.proofs.number.plain.Reads as fields_plain
 use Rattle.fields.proofs.number.read.Reads as fields_number
 use Rattle.fields.proofs.number.rising.Reads as fields_rising
-use Rattle.fields.proofs.place.after.Reads as fields_after
-use Rattle.fields.proofs.place.next.Reads as fields_next
-use Rattle.fields.proofs.place.remaining.Reads as fields_remaining
 use Rattle.fields.proofs.place.ended.Reads as fields_ended
 use Rattle.sheet.proofs.reader.read_with_blocked.Reads as sheet_read_with_blocked
 use Rattle.sheet.proofs.reader.read.Reads as sheet_read
@@ -121,10 +118,8 @@ pub record OneAnswer : Type 1 where
   pub density : One density_density_of.Learnt × One density_awaited_twice.Learnt
   pub judge : One judge_task_route.Learnt × One judge_event_route.Learnt × One judge_judge.Learnt × One judge_verdict_of.Learnt × One judge_nobody.Learnt
   pub text : One text_text_of.Learnt × One text_sheet_line.Learnt × One text_total_line.Learnt × One text_stopped_line.Learnt
-  pub fields : One fields_plain.Learnt × One fields_number.Learnt × One fields_rising.Learnt × One fields_after.Learnt × One fields_next.Learnt
-      × One fields_remaining.Learnt × One fields_ended.Learnt
-  pub sheet : OneLent {B = ℕ × ℕ} (λ κ e. (e.1.0.now, e.1.1.0.now)) sheet_read_with_blocked.Learnt
-      × OneLent (λ κ e. e.1.0.now) sheet_read.Learnt
+  pub fields : One fields_plain.Learnt × One fields_number.Learnt × One fields_rising.Learnt × One fields_ended.Learnt
+  pub sheet : OneLent (λ κ e. e.1.0.now) sheet_read_with_blocked.Learnt × OneLent (λ κ e. e.1.0.now) sheet_read.Learnt
   pub sheet_file : One sheet_file_count.Learnt × One sheet_file_next_piece.Learnt × One sheet_file_wanted.Learnt × One sheet_file_none.Learnt
       × One sheet_file_with.Learnt × One sheet_file_done.Learnt
   pub writer : One writer_refused.Learnt × OneLent (λ κ e. e.1.1.0.now) writer_call_and_write.Learnt

@@ -36,18 +36,9 @@ pub fn verdicts(table: Table) -> ByRoute
     }
 }
 
-// Whom the two routes name.
-#[derive(Clone, Copy)]
-pub struct NamedByRoute {
-    pub tasks: u32,
-    pub events: u32,
-}
-
-pub fn routes(table: Table) -> NamedByRoute
-    ensures { RoutesAgree table result.tasks result.events }
+// Whom the two routes name: the task route, and the event route.
+pub fn routes(table: Table) -> (u32, u32)
+    ensures { RoutesAgree table result.0 result.1 }
 {
-    NamedByRoute {
-        tasks: task_route(table),
-        events: event_route(table),
-    }
+    (task_route(table), event_route(table))
 }

@@ -1,18 +1,20 @@
 // The demands of a sheet: of what the reader hands back, of a sheet's verdict, of what the two entries answer and leave in the lent bytes, and of what is
 // printed.
+ghost use Rattle.answers.specs.Answers.{answer_of};
 ghost use Rattle.hall.specs.Calls.{call};
 ghost use Rattle.writer.specs.Next.{hands_over};
 ghost use Rattle.demands.specs.Demands.{SheetRead, SheetVerdict, SheetAnswered, SheetPrinted};
 ghost use Rattle.demands.specs.SheetCalls.{SheetCallAnswered};
 
+use answers::Refusal;
 use hall::table::Table;
 use judge::verdict::Verdict;
 use text::text::Text;
 
-pub fn read(sheet: &[u8], answer: &mut u32) -> Table
-    ensures { SheetRead sheet.now answer.new result }
+pub fn read(sheet: &[u8], table: &mut Table) -> Result<(), Refusal>
+    ensures { SheetRead sheet.now (answer_of result) table.new }
 {
-    sheet::reader::read(sheet, answer)
+    sheet::reader::read(sheet, table)
 }
 
 pub fn verdict_of(sheet: &[u8], route: u64) -> Verdict

@@ -4,4 +4,4 @@ use Rattle.demands.proofs.sheets.read.Goals as goal
 
 pub returns : goal.returns
 returns c =
-    sheet_read c.args.sheet.now (λ i. (c.shared_slice_known-1.given i).fits) _ c.read.result c.read.ensures
+    sheet_read c.args.sheet.now (λ i. (c.type_inv.sheet i).fits) _ _ c.read.ensures

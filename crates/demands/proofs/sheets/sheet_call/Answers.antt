@@ -7,5 +7,5 @@ use Rattle.demands.proofs.sheets.sheet_call.Goals as goal
 pub returns : goal.returns
 returns c =
     let a = c.args in
-    sheet_called_by a.sheet.now (λ i. (c.shared_slice_known-1.given i).fits) (call a.kind a.task a.phaser a.other) a.next.now _ _
+    sheet_called_by a.sheet.now (λ i. (c.type_inv.sheet i).fits) (call a.kind a.task a.phaser a.other) a.next.now _ _
     c.sheet_call.ensures (omega arith) (omega arith) (omega arith) (omega arith)

@@ -7,7 +7,6 @@ use Rattle.demands.proofs.sheets.sheet_verdict.Goals as goal
 pub returns : goal.returns
 returns c =
     let a = c.args in
-    let known = c.shared_slice_known-1.given in
     let s = a.sheet.now in
     let entered = entered_by _ a.route (λ l. omega arith, λ l. omega arith) s a.strip.now _ _ c.sheet_verdict.ensures in
-    sheet_answered s (λ i. (known i).fits) a.route a.strip.now _ _ entered
+    sheet_answered s (λ i. (c.type_inv.sheet i).fits) a.route a.strip.now _ _ entered

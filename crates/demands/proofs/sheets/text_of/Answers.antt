@@ -13,7 +13,7 @@ returns c =
     let text = c.text_of.ensures in
     record {
       verdict = v.result;
-      judged = sheet_verdict s (λ i. (c.shared_slice_known-1.given i).fits) 0 v.result judged;
+      judged = sheet_verdict s (λ i. (c.type_inv.sheet i).fits) 0 v.result judged;
       is = text.says;
       whole = said_whole c.text_of.result _ text.says text.whole;
     }

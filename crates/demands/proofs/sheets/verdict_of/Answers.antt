@@ -8,4 +8,4 @@ pub returns : goal.returns
 returns c =
     let a = c.args in
     let judged = sheet_judged_by _ a.route (λ l. omega arith, λ l. omega arith) a.sheet.now c.verdict_of.result c.verdict_of.ensures in
-    sheet_verdict a.sheet.now (λ i. (c.shared_slice_known-1.given i).fits) a.route c.verdict_of.result judged
+    sheet_verdict a.sheet.now (λ i. (c.type_inv.sheet i).fits) a.route c.verdict_of.result judged
