@@ -144,3 +144,57 @@ pub fn first<F: Fn(usize) -> bool>(set: u32, test: F) -> Option<usize>
     }
     None
 }
+
+// The tasks of a set, lowest first.
+#[derive(Clone, Copy)]
+pub struct Rising {
+    left: u32,
+}
+
+pub fn each(set: u32) -> Rising
+    ensures { result.left ≡ set }
+{
+    Rising { left: set }
+}
+
+impl Iterator for Rising {
+    type Item = usize;
+
+    ghost next_gives = { λ s r t. Next s.left r t.left };
+
+    ghost remaining = { λ s. at_most s.left };
+
+    fn next(&mut self) -> Option<usize> {
+        let left = self.left;
+        if left == 0 {
+            return None;
+        }
+        self.left = rest(left);
+        Some(lowest(left))
+    }
+}
+
+// Those of the set for whom the test holds.
+pub fn those<F: Fn(usize) -> bool>(set: u32, test: F) -> u32
+    requires { (k : ℕ) → k < 32 → Has set k → F.pre test k }
+    ensures { Those (Has set) (F.post test) (Has result) }
+{
+    let mut found = set;
+    for task in each(set) {
+        found = kept(found, task, test(task));
+    }
+    found
+}
+
+// The lowest of the set for whom the test holds.
+pub fn first<F: Fn(usize) -> bool>(set: u32, test: F) -> Option<usize>
+    requires { (k : ℕ) → k < 32 → Has set k → F.pre test k }
+    ensures { First (Has set) (F.post test) result }
+{
+    for task in each(set) {
+        if test(task) {
+            return Some(task);
+        }
+    }
+    None
+}
