@@ -1,185 +1,137 @@
 #![tactic(auto)]
 
 // Seven sheets, whole and damaged at each byte, judged through the entry: a line for each, `base damage place answer`, and where the
-// answer is 0 also the mask, the count, the ring's length and the ring. Damages: 0 none; 1 cut before the place; the byte at the place
-// 2 with its top bit turned, 3 one higher, 4 made 0, 5 made 255; 6 a byte added, the number of the place. What it is to write was worked
-// out by host/model/model.py, which has its own reader of document 01 and walks both routes.
+// answer is 0 also the mask, the count, the ring's length and the ring. What it is to write was worked out by host/model/model.py, which has
+// its own reader of document 01 and walks both routes.
+ghost use Rattle.std.specs.Prelude.{◌+◌, ◌<◌, ◌≤◌, length};
+
 use mollavisce::entry::sheet_verdict;
 use std::io;
 
-// The damaged byte.
-fn changed(byte: u8, damage: u64) -> u8 {
-    if damage == 2 {
-        return if byte < 128 { byte + 128 } else { byte - 128 };
-    }
-    if damage == 3 {
-        return if byte < 255 { byte + 1 } else { 0 };
-    }
-    if damage == 4 {
-        return 0;
-    }
-    if damage == 5 { 255 } else { byte }
+// What is done to a sheet at a place, by the number that is printed.
+#[derive(Clone, Copy)]
+enum Damage {
+    None = 0,
+    // the sheet ends before the place
+    Cut = 1,
+    // the byte at the place has its top bit turned, is one higher, is 0 or 255
+    TopBit = 2,
+    Higher = 3,
+    Zero = 4,
+    Full = 5,
+    // a byte is added at the end, the number of the place
+    Added = 6,
 }
 
-// The byte at a place of the damaged sheet; past its end, the byte that damage 6 adds.
-fn byte_after(sheet: &[u8], damage: u64, place: usize, at: usize) -> u8 {
-    if sheet.len() <= at {
-        return (place % 256) as u8;
-    }
-    let byte = sheet[at];
-    if at == place {
-        changed(byte, damage)
-    } else {
-        byte
-    }
-}
+const DAMAGES: [Damage; 7] = [
+    Damage::None,
+    Damage::Cut,
+    Damage::TopBit,
+    Damage::Higher,
+    Damage::Zero,
+    Damage::Full,
+    Damage::Added,
+];
 
-fn bytes_after(sheet: &[u8], damage: u64, place: usize) -> [u8; 40] {
-    let mut bytes = [0u8; 40];
-    let mut i: usize = 0;
-    while i < 40 {
-        bytes[i] = byte_after(sheet, damage, place, i);
-        i += 1;
-    }
-    bytes
-}
-
-fn length_after(length: usize, damage: u64, place: usize) -> usize {
-    if damage == 1 {
-        return place;
-    }
-    if damage == 6 {
-        if length < 40 {
-            return length + 1;
+impl Damage {
+    // How many places of a sheet are damaged in turn.
+    fn places(self, sheet: &[u8]) -> usize
+        requires { length sheet.now < 40 }
+        ensures { result < 40 }
+    {
+        match self {
+            Damage::None | Damage::Added => 2,
+            _ => sheet.len(),
         }
     }
-    length
-}
 
-fn number(rt: &HostRuntime, n: u64) -> io::Result<()> {
-    print!(rt; " {n}")
-}
-
-fn wide(byte: u8) -> u64 {
-    byte as u64
-}
-
-fn mask(a: u8, b: u8, c: u8, d: u8) -> u64 {
-    a as u64 + b as u64 * 256 + c as u64 * 65_536 + d as u64 * 16_777_216
-}
-
-fn print_ring(rt: &HostRuntime, strip: [u8; 38]) -> io::Result<()> {
-    let length = strip[5];
-    let mut i: usize = 0;
-    while i < 32 {
-        if i < length as usize {
-            number(rt, wide(strip[6 + i]))?;
+    // Applies the damage to a sheet, the first `length` bytes, and hands back how long it is then.
+    fn apply(self, bytes: &mut [u8; 40], length: usize, place: usize) -> usize
+        requires length { length < 40 }
+        requires place { place < 40 }
+        ensures { result ≤ 40 }
+    {
+        match self {
+            Damage::None => {}
+            Damage::Cut => return place,
+            Damage::TopBit => bytes[place] ^= 0x80,
+            Damage::Higher => bytes[place] = bytes[place].wrapping_add(1),
+            Damage::Zero => bytes[place] = 0,
+            Damage::Full => bytes[place] = 255,
+            Damage::Added => {
+                bytes[length] = place as u8;
+                return length + 1;
+            }
         }
-        i += 1;
+        length
+    }
+}
+
+// The mask, the count, the ring's length and the ring.
+fn print_strip(rt: &HostRuntime, strip: &[u8; 38]) -> io::Result<()> {
+    let [a, b, c, d, count, length, ..] = *strip;
+    let mask = u32::from_le_bytes([a, b, c, d]);
+    print!(rt; " {mask} {count} {length}")?;
+    for task in strip[6..].iter().take(usize::from(length)) {
+        print!(rt; " {task}")?;
     }
     Ok(())
-}
-
-fn print_strip(rt: &HostRuntime, strip: [u8; 38]) -> io::Result<()> {
-    number(rt, mask(strip[0], strip[1], strip[2], strip[3]))?;
-    number(rt, wide(strip[4]))?;
-    number(rt, wide(strip[5]))?;
-    print_ring(rt, strip)
 }
 
 // What the entry answers, by route 0 at even places and by route 1 at odd ones.
 fn judge(rt: &HostRuntime, sheet: &[u8], place: usize) -> io::Result<()> {
     let mut strip = [0u8; 38];
-    let answer = sheet_verdict(sheet, (place % 2) as u64, &mut strip);
-    number(rt, answer as u64)?;
+    let answer = sheet_verdict(sheet, place as u64 % 2, &mut strip);
+    print!(rt; " {answer}")?;
     if answer == 0 {
-        print_strip(rt, strip)?;
+        print_strip(rt, &strip)?;
     }
     Ok(())
 }
 
-// Judges the first `length` bytes; every sheet here has room in 40.
-fn judge_first(rt: &HostRuntime, bytes: [u8; 40], length: usize, place: usize) -> io::Result<()> {
-    if length <= 40 {
-        judge(rt, &bytes[..length], place)?;
-    }
-    Ok(())
-}
-
-fn line(rt: &HostRuntime, base: u64, sheet: &[u8], damage: u64, place: usize) -> io::Result<()> {
-    print!(rt; "{base}")?;
-    number(rt, damage)?;
-    number(rt, place as u64)?;
-    judge_first(
-        rt,
-        bytes_after(sheet, damage, place),
-        length_after(sheet.len(), damage, place),
-        place,
-    )?;
+fn line(rt: &HostRuntime, base: usize, sheet: &[u8], damage: Damage, place: usize) -> io::Result<()>
+    requires sheet { length sheet.now < 40 }
+    requires place { place < 40 }
+{
+    let mut bytes = [0u8; 40];
+    bytes[..sheet.len()].copy_from_slice(sheet);
+    let length = damage.apply(&mut bytes, sheet.len(), place);
+    print!(rt; "{base} {} {place}", damage as u8)?;
+    judge(rt, &bytes[..length], place)?;
     println!(rt; "")
 }
 
-// How many places are damaged in turn.
-fn places(length: usize, damage: u64) -> usize {
-    if (damage == 0) | (damage == 6) {
-        2
-    } else {
-        length
-    }
-}
-
-fn damage_lines(rt: &HostRuntime, base: u64, sheet: &[u8], damage: u64) -> io::Result<()> {
-    let end = places(sheet.len(), damage);
-    let mut place: usize = 0;
-    while place < end {
-        line(rt, base, sheet, damage, place)?;
-        place += 1;
+fn lines(rt: &HostRuntime, base: usize, sheet: &[u8]) -> io::Result<()>
+    requires { length sheet.now < 40 }
+{
+    for damage in DAMAGES {
+        for place in 0..damage.places(sheet) {
+            line(rt, base, sheet, damage, place)?;
+        }
     }
     Ok(())
 }
 
-fn sheet_lines(rt: &HostRuntime, base: u64, sheet: &[u8]) -> io::Result<()> {
-    let mut damage: u64 = 0;
-    while damage < 7 {
-        damage_lines(rt, base, sheet, damage)?;
-        damage += 1;
-    }
-    Ok(())
-}
+const SHEETS: [&[u8]; 7] = [
+    // the empty table
+    b"\x01\x00\x00",
+    // P2
+    b"\x01\x01\x00\x01\x00\x01\x00\x01\x01\x00\x00",
+    // P4
+    b"\x01\x02\x00\x01\x02\x00\x01\x00\x01\x02\x00\x01\x01\x00\x01\x01\x01\x01\x02\x00\x00\x01\x01",
+    // P6
+    b"\x01\x02\x00\x01\x03\x00\x01\x00\x01\x02\x00\x01\x01\x00\x01\x01\x01\x01\x02\x00\x00\x01\x01\x02\x01\x00\x01\x01\x00\x01",
+    // P8
+    b"\x01\x03\x00\x01\x02\x03\x00\x01\x00\x02\x02\x00\x02\x01\x00\x01\x01\x01\x01\x02\x00\x02\x01\x01\x02\x01\x02\x01\x03\x00\x00\x01\x00\x02\x00",
+    // P9
+    b"\x01\x02\x00\x01\x03\x00\x01\x00\x01\x01\x00\x01\x01\x01\x01\x01\x02\x00\x00\x01\x00\x02\x00\x01\x00\x00",
+    // numbers of one, two and three groups: named 9 31
+    b"\x01\x02\x03\x0f\x03\x07\x00\x01\x0f\x80\x01\x09\x01\x03\xac\x02\x02\x03\x80\x80\x01\x0f\xfe\xff\x03\x1f\x01\x0f\xff\xff\x03\x02\x03\xab\x02\x0f\xff\xff\x03",
+];
 
 fn main(rt: HostRuntime) -> io::Result<()> {
-    // the empty table
-    sheet_lines(&rt, 0, b"\x01\x00\x00")?;
-    // P2
-    sheet_lines(&rt, 1, b"\x01\x01\x00\x01\x00\x01\x00\x01\x01\x00\x00")?;
-    // P4
-    sheet_lines(
-        &rt,
-        2,
-        b"\x01\x02\x00\x01\x02\x00\x01\x00\x01\x02\x00\x01\x01\x00\x01\x01\x01\x01\x02\x00\x00\x01\x01",
-    )?;
-    // P6
-    sheet_lines(
-        &rt,
-        3,
-        b"\x01\x02\x00\x01\x03\x00\x01\x00\x01\x02\x00\x01\x01\x00\x01\x01\x01\x01\x02\x00\x00\x01\x01\x02\x01\x00\x01\x01\x00\x01",
-    )?;
-    // P8
-    sheet_lines(
-        &rt,
-        4,
-        b"\x01\x03\x00\x01\x02\x03\x00\x01\x00\x02\x02\x00\x02\x01\x00\x01\x01\x01\x01\x02\x00\x02\x01\x01\x02\x01\x02\x01\x03\x00\x00\x01\x00\x02\x00",
-    )?;
-    // P9
-    sheet_lines(
-        &rt,
-        5,
-        b"\x01\x02\x00\x01\x03\x00\x01\x00\x01\x01\x00\x01\x01\x01\x01\x01\x02\x00\x00\x01\x00\x02\x00\x01\x00\x00",
-    )?;
-    // numbers of one, two and three groups: named 9 31
-    sheet_lines(
-        &rt,
-        6,
-        b"\x01\x02\x03\x0f\x03\x07\x00\x01\x0f\x80\x01\x09\x01\x03\xac\x02\x02\x03\x80\x80\x01\x0f\xfe\xff\x03\x1f\x01\x0f\xff\xff\x03\x02\x03\xab\x02\x0f\xff\xff\x03",
-    )
+    for (base, sheet) in SHEETS.iter().enumerate() {
+        lines(&rt, base, sheet)?;
+    }
+    Ok(())
 }
