@@ -17,10 +17,10 @@ pub(crate) fn sheet() -> [u8; 243] {
     sheet[1] = 16;
     sheet[18] = 32;
     for phaser in 0..16u8 {
-        sheet[2 + phaser as usize] = phaser;
+        sheet[2 + usize::from(phaser)] = phaser;
     }
     for task in 0..32u8 {
-        let at = 19 + task as usize * 7;
+        let at = 19 + usize::from(task) * 7;
         sheet[at..at + 7].copy_from_slice(&entry(task));
     }
     sheet

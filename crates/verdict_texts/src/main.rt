@@ -4,7 +4,6 @@
 // called. What it is to write was written by hand from document 01.
 mod entry;
 mod longest;
-mod output;
 mod texts;
 mod unsound;
 
