@@ -1,21 +1,16 @@
-// The table with the longest sheet, 2,291 bytes: every task is blocked at a phase of three groups, and a member of every phaser at another.
+// The table with the longest sheet: every task is blocked at a phase of three groups, and a member of every phaser at another.
+use crate::tables::blocked;
 use hall::table::Table;
-use states::state::{Event, Phase, PhaserNo, State, Task};
+use states::state::Phase;
+use std::array;
+
+pub(crate) const LONGEST_SHEET: usize = 2_291;
 
 pub(crate) fn table() -> Table {
-    let mut table = Table::fresh();
-    table.opened = [true; 16];
-    table.members = [true; 512];
-    table.phases = [Phase(40_000); 512];
-    let mut k: usize = 0;
-    while k < 32 {
-        table.tasks[k] = Task {
-            state: State::Blocked(Event {
-                phaser: PhaserNo(k as u64 % 16),
-                phase: Phase(65_535),
-            }),
-        };
-        k += 1;
+    Table {
+        tasks: array::from_fn(|k| blocked(k as u64 % 16, 65_535)),
+        opened: [true; 16],
+        phases: [Phase(40_000); 512],
+        members: [true; 512],
     }
-    table
 }

@@ -10,11 +10,12 @@ mod draws;
 mod fault;
 mod lines;
 mod longest;
+mod tables;
 
 use std::io;
 
 fn main(rt: HostRuntime) -> io::Result<()> {
     bench::lines(&rt)?;
-    lines::table_lines(&rt, 13, longest::table(), false)?;
+    lines::table_lines(&rt, 13, longest::table())?;
     drawn::lines(&rt)
 }
