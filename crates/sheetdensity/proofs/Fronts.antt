@@ -1,20 +1,12 @@
--- The front of what was taken in: it stays where more is read behind it, and what is wanted is never less than it.
+-- What is wanted is never less than what is held.
 use mathlib.Core.Path.{◌≡◌, sym, ap, ◌∙◌}
 use mathlib.Core.List.{List, ◌++◌}
 use Prim.Native.Nat.{ℕ, ◌+◌, ◌≤◌}
 use native.Mathlib.Omega.{arith}
-use lib.ListN.{length, take, drop, length-take, take-append-drop}
-use lib.Seq.{take-take, take-append-le, length-take-le}
+use lib.ListN.{length, take, drop, take-append-drop}
+use lib.Seq.{take-take, length-take-le}
 use Rattle.sheet_file.specs.Parts.{wanted_of}
 use Rattle.sheet_file.proofs.Enough.{wanted_grows}
-
-pub front_short : (n m : ℕ) (l : List ℕ) → length l ≡ m → length (take n l) ≤ m
-front_short n m l e = omega (arith, length-take n l)
-
--- what is read behind the first bytes leaves them
-pub front_stays : (held : ℕ) (piece rest : List ℕ) → held ≤ length piece → take held (take held piece ++ rest) ≡ take held piece
-front_stays held piece rest l =
-    take-append-le held (take held piece) rest (omega (arith, length-take-le held piece l)) ∙ take-take held held piece (omega arith)
 
 -- more was read behind the first bytes, and no more than was wanted
 pub more_wanted : (held more : ℕ) (old new : List ℕ) → take held new ≡ take held old → held + more ≤ length new

@@ -2,82 +2,55 @@
 
 // Reads a file of sheets, each after its length, and prints how dense the graphs of each are, then the totals. The file is standard input, or the one
 // that is named by the argument. Of it no more is held than one sheet and its length.
-ghost use Rattle.std.specs.Prelude.{◌≡◌, false, ◌≤◌, length, take};
-ghost use Rattle.std.specs.Counts.{IsPrefixLen};
-ghost use Rattle.sheet_file.specs.Parts.{largest_piece, wanted_of};
+ghost use Rattle.std.specs.Prelude.{◌≡◌, ◌⊎◌, IfOk, take};
+ghost use Rattle.std.specs.Io.{ReadsAtMost};
+ghost use Rattle.std.specs.Io.KnownBytes.{IsAtEnd};
+ghost use Rattle.sheet_file.specs.Parts.{wanted_of};
 
 use demands::densities::next_step;
 use sheet_file::piece::{LARGEST_PIECE, wanted};
 use sheet_file::totals::Totals;
 use std::env::{Env, FillError};
 use std::fs::File;
-use std::io::Read;
-use std::{io, str};
-use text::text::Text;
+use std::io::{self, Read};
+use std::str;
 
-// How many bytes were taken in, whether the file has come to its end, and the error where a read failed.
-#[derive(Drop)]
-struct Input {
-    held: usize,
-    ended: bool,
-    failed: Option<io::Error>,
-}
-
-// Takes in the bytes of what comes next: first its length, then as many more as that says. An end is asked for once.
-fn take_in<R: Read>(file: &mut R, piece: &mut [u8]) -> Input
-    requires { length piece.old ≡ largest_piece }
-    ensures holds { IsPrefixLen result.held piece.new }
-    ensures whole { result.ended ≡ false → result.held ≡ wanted_of (take result.held piece.new) }
+// Takes in the bytes of what comes next: first its length, then as many more as that says, or as there are. An end is asked for once.
+fn take_in<R: Read>(file: &mut R, piece: &mut [u8; LARGEST_PIECE]) -> io::Result<usize>
+    ensures holds { ReadsAtMost result piece.new }
+    ensures whole { IfOk result (λ held. (held ≡ wanted_of (take held piece.new)) ⊎ IsAtEnd (R.remaining file.new)) }
 {
     let mut held: usize = 0;
-    let mut want = wanted(&piece[..held]);
-    while held < want {
-        let more = match file.read(&mut piece[held..want]) {
-            Ok(more) => more,
-            Err(error) => {
-                return Input {
-                    held,
-                    ended: true,
-                    failed: Some(error),
-                };
-            }
-        };
+    loop {
+        let want = wanted(&piece[..held]);
+        if want <= held {
+            return Ok(held);
+        }
+        let more = file.read(&mut piece[held..want])?;
         if more == 0 {
-            return Input {
-                held,
-                ended: true,
-                failed: None,
-            };
+            return Ok(held);
         }
         held += more;
-        want = wanted(&piece[..held]);
     }
-    Input {
-        held,
-        ended: false,
-        failed: None,
-    }
-}
-
-// One line, in one write.
-fn print(rt: &HostRuntime, text: Text) -> bool
-    requires { text.length ≤ length text.bytes }
-{
-    let bytes = text.bytes;
-    let length = text.length;
-    rt.write_all(&bytes[..length]).is_ok()
 }
 
 // The text of an error, without its number.
 fn words_of(text: &str) -> &str {
-    match text.split_once(" (os error ") {
-        Some((words, _)) => words,
-        None => text,
-    }
+    text.split_once(" (os error ")
+        .map_or(text, |(words, _)| words)
+}
+
+// Why a run stops before the last line.
+#[derive(Drop)]
+enum Fault {
+    Usage,
+    Open(io::Error),
+    Read(io::Error),
+    Write,
 }
 
 // What failed, a colon and the system's words for it, on standard error; without the words where there is no memory for them.
-fn fail(rt: &HostRuntime, what: &str, error: io::Error) -> io::Result<()> {
+fn print_error(rt: &HostRuntime, what: &str, error: io::Error) -> io::Result<()> {
     let Ok(text) = format!(in rt.alloc(); "{error}") else {
         return eprintln!(rt; "{what}");
     };
@@ -85,27 +58,28 @@ fn fail(rt: &HostRuntime, what: &str, error: io::Error) -> io::Result<()> {
     eprintln!(rt; "{what}: {words}")
 }
 
-// A line for each sheet, and the last one.
-fn run<R: Read>(rt: &HostRuntime, file: &mut R) {
+fn print_fault(rt: &HostRuntime, fault: Fault) -> io::Result<()> {
+    match fault {
+        Fault::Usage => eprintln!(rt; "usage: sheetdensity [FILE]"),
+        Fault::Open(error) => print_error(rt, "sheetdensity: the file cannot be opened", error),
+        Fault::Read(error) => print_error(rt, "sheetdensity: the sheets cannot be read", error),
+        Fault::Write => eprintln!(rt; "sheetdensity: standard output cannot be written"),
+    }
+}
+
+// A line for each sheet, and the last one, each in one write.
+#[tactic(auto, using(demands::proofs::OfFiles::text_within))]
+fn print_lines<R: Read>(rt: &HostRuntime, file: &mut R) -> Result<(), Fault> {
     let mut piece = [0u8; LARGEST_PIECE];
     let mut totals = Totals::none();
     loop {
-        let Input {
-            held,
-            ended: _,
-            failed,
-        } = take_in(file, &mut piece);
-        if let Some(error) = failed {
-            let _ = fail(rt, "sheetdensity: the sheets cannot be read", error);
-            return;
-        }
+        let held = take_in(file, &mut piece).map_err(Fault::Read)?;
         let step = next_step(&piece[..held], totals);
-        if !print(rt, step.text) {
-            let _ = eprintln!(rt; "sheetdensity: standard output cannot be written");
-            return;
-        }
+        let line = step.text;
+        rt.write_all(&line.bytes[..line.length])
+            .map_err(|_| Fault::Write)?;
         if step.ended {
-            return;
+            return Ok(());
         }
         totals = step.totals;
     }
@@ -121,28 +95,26 @@ const NAME_TOO_LONG: i32 = 36;
 // The file that the argument names. A name has room in 4,096 bytes, and is text.
 fn open(rt: &HostRuntime) -> io::Result<File> {
     let mut name = [0u8; 4096];
-    let Ok(length) = rt.arg(1, &mut name) else {
-        return Err(io::Error::from_raw_os_error(NAME_TOO_LONG));
-    };
-    let Ok(name) = str::from_utf8(&name[..length]) else {
-        return Err(io::Error::from(io::ErrorKind::InvalidFilename));
-    };
+    let length = rt
+        .arg(1, &mut name)
+        .map_err(|_| io::Error::from_raw_os_error(NAME_TOO_LONG))?;
+    let name = str::from_utf8(&name[..length]).map_err(|_| io::ErrorKind::InvalidFilename)?;
     File::open(rt, name)
 }
 
+fn run(rt: &HostRuntime) -> Result<(), Fault> {
+    if has_argument(rt, 2) {
+        return Err(Fault::Usage);
+    }
+    if !has_argument(rt, 1) {
+        return print_lines(rt, &mut rt.stdin());
+    }
+    let mut file = open(rt).map_err(Fault::Open)?;
+    print_lines(rt, &mut file)
+}
+
 fn main(rt: HostRuntime) {
-    if has_argument(&rt, 2) {
-        let _ = eprintln!(rt; "usage: sheetdensity [FILE]");
-        return;
-    }
-    if !has_argument(&rt, 1) {
-        run(&rt, &mut rt.stdin());
-        return;
-    }
-    match open(&rt) {
-        Ok(mut file) => run(&rt, &mut file),
-        Err(error) => {
-            let _ = fail(&rt, "sheetdensity: the file cannot be opened", error);
-        }
+    if let Err(fault) = run(&rt) {
+        let _ = print_fault(&rt, fault);
     }
 }
