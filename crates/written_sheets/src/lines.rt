@@ -4,7 +4,7 @@ ghost use Rattle.std.specs.Prelude.{◌<◌, ◌≤◌};
 use crate::longest::LONGEST_SHEET;
 use hall::table::Table;
 use std::{array, io};
-use writer::writer::{Written, write};
+use writer::writer::write;
 
 // A buffer before a write: no byte is like its neighbours.
 fn pattern() -> [u8; 2300] {
@@ -18,15 +18,18 @@ fn sum(bytes: &[u8; 2300]) -> u16 {
     })
 }
 
-// A write into the first `length` bytes. The sum is over all 2,300.
-fn line(rt: &HostRuntime, number: u64, table: Table, length: usize) -> io::Result<Written>
+// A write into the first `length` bytes, and the length of the sheet that it wrote. The sum is over all 2,300.
+fn line(rt: &HostRuntime, number: u64, table: Table, length: usize) -> io::Result<Option<u64>>
     requires { length ≤ 2300 }
 {
     let mut bytes = pattern();
     let written = write(table, &mut bytes[..length]);
-    let Written { answer, value } = written;
+    let (answer, value) = match written {
+        Ok(sheet) => (0, sheet),
+        Err(refusal) => (refusal.number(), 0),
+    };
     println!(rt; "{number} {length} {answer} {value} {}", sum(&bytes))?;
-    Ok(written)
+    Ok(written.ok())
 }
 
 fn print_hex(rt: &HostRuntime, bytes: &[u8]) -> io::Result<()> {
@@ -41,7 +44,7 @@ fn sheet_line(rt: &HostRuntime, table: Table, length: usize) -> io::Result<()>
     requires { length ≤ 2296 }
 {
     let mut bytes = pattern();
-    write(table, &mut bytes);
+    let _ = write(table, &mut bytes);
     print_hex(rt, &bytes[..length])?;
     print!(rt; " ")?;
     print_hex(rt, &bytes[length..length + 4])?;
@@ -50,12 +53,11 @@ fn sheet_line(rt: &HostRuntime, table: Table, length: usize) -> io::Result<()>
 
 // All lines of a table.
 pub(crate) fn table_lines(rt: &HostRuntime, number: u64, table: Table) -> io::Result<()> {
-    let written = line(rt, number, table, 2300)?;
-    if written.answer != 0 {
+    let Some(sheet) = line(rt, number, table, 2300)? else {
         line(rt, number, table, 0)?;
         return Ok(());
-    }
-    let length = written.value as usize;
+    };
+    let length = sheet as usize;
     // every sheet has room in 2,296
     if 0 < length && length <= 2296 {
         if length < LONGEST_SHEET {
