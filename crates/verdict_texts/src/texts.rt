@@ -20,20 +20,23 @@ const LARGEST: Verdict = Verdict {
 };
 
 pub(crate) fn lines(rt: &HostRuntime) -> io::Result<()> {
-    // no bytes at all
-    print(rt, verdict_of(b"", 0))?;
-    // the empty table: nobody
-    print(rt, verdict_of(b"\x01\x00\x00", 0))?;
-    print(rt, verdict_of(crate::entry::P4, 0))?;
-    // everybody named, everybody on the ring
-    print(rt, verdict_of(&crate::longest::sheet(), 0))?;
-    print(rt, LARGEST)?;
-    // a length over 32, and numbers that are no task's, on answer 0: all 32 places are printed
-    print(
-        rt,
+    let verdicts = [
+        // no bytes at all
+        verdict_of(b"", 0),
+        // the empty table: nobody
+        verdict_of(b"\x01\x00\x00", 0),
+        verdict_of(crate::entry::P4, 0),
+        // everybody named, everybody on the ring
+        verdict_of(&crate::longest::sheet(), 0),
+        LARGEST,
+        // a length over 32, and numbers that are no task's, on answer 0: all 32 places are printed
         Verdict {
             answer: 0,
             ..LARGEST
         },
-    )
+    ];
+    for verdict in verdicts {
+        print(rt, verdict)?;
+    }
+    Ok(())
 }

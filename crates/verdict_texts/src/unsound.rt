@@ -53,20 +53,23 @@ fn blocked(phaser: u64, phase: u32) -> Task {
 }
 
 pub(crate) fn lines(rt: &HostRuntime) -> io::Result<()> {
-    line(rt, sound())?;
-    // "every member is a live task (running or blocked)"
-    line(
-        rt,
+    let tables = [
+        sound(),
+        // "every member is a live task (running or blocked)"
         but(|table| table.tasks[0] = Task { state: State::Free }),
-    )?;
-    // "of an open phaser"
-    line(rt, but(|table| table.opened[0] = false))?;
-    // "every awaited phaser is open"
-    line(rt, but(|table| table.tasks[1] = blocked(1, 1)))?;
-    line(rt, but(|table| table.tasks[1] = blocked(16, 1)))?;
-    // "no phase, kept or awaited, is over 65,535"
-    line(rt, but(|table| table.phases[0] = Phase(65_536)))?;
-    line(rt, but(|table| table.tasks[1] = blocked(0, 65_536)))?;
-    // "a non-member's kept phase is 0"; entry 1 is task 0's on phaser 1
-    line(rt, but(|table| table.phases[1] = Phase(1)))
+        // "of an open phaser"
+        but(|table| table.opened[0] = false),
+        // "every awaited phaser is open"
+        but(|table| table.tasks[1] = blocked(1, 1)),
+        but(|table| table.tasks[1] = blocked(16, 1)),
+        // "no phase, kept or awaited, is over 65,535"
+        but(|table| table.phases[0] = Phase(65_536)),
+        but(|table| table.tasks[1] = blocked(0, 65_536)),
+        // "a non-member's kept phase is 0"; entry 1 is task 0's on phaser 1
+        but(|table| table.phases[1] = Phase(1)),
+    ];
+    for table in tables {
+        line(rt, table)?;
+    }
+    Ok(())
 }
