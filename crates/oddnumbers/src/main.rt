@@ -2,7 +2,6 @@
 
 // Calls with odd numbers in each place: a line for each, `kind task phaser other answer value`.
 use hall::calls::{Call, Called};
-use hall::kind::KINDS;
 use hall::table::Table;
 use states::state::{PhaserNo, TaskNo};
 use std::io;
@@ -26,7 +25,7 @@ const ODD: [u64; 15] = [
     18_446_744_073_709_551_615,
 ];
 
-// Numbers that each kind accepts, and a kind that there is not: `(kind, task, phaser, other)`.
+// `(kind, task, phaser, other)`: numbers that each kind accepts, and kind 10, which there is not.
 const ACCEPTED: [(u64, u64, u64, u64); 11] = [
     (0, 0, 0, 0),
     (1, 0, 0, 0),
@@ -38,7 +37,7 @@ const ACCEPTED: [(u64, u64, u64, u64); 11] = [
     (7, 0, 2, 0),
     (8, 0, 0, 1),
     (9, 1, 0, 0),
-    (KINDS, 0, 0, 0),
+    (10, 0, 0, 0),
 ];
 
 // All 32 tasks run, and task 0 is a member of all 16 phasers.

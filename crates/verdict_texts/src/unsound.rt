@@ -1,18 +1,17 @@
 // Tables made by hand, one field apart from a sound one: a line for each, `table`, what the judge answers and what the calls answer.
 use hall::calls::Call;
-use hall::kind::KINDS;
 use hall::table::Table;
 use judge::judge::{LARGEST_ROUTE, judge};
 use states::state::{Event, Phase, PhaserNo, State, Task};
 use std::io;
 
-// The judge by each route; then each kind of call, and a kind that there is not.
+// The judge by each route; then each kind of call, and kind 10, which there is not.
 fn line(rt: &HostRuntime, table: Table) -> io::Result<()> {
     print!(rt; "table")?;
     for route in 0..=LARGEST_ROUTE {
         print!(rt; " {}", judge(table, route).answer)?;
     }
-    for kind in 0..=KINDS {
+    for kind in 0..=10 {
         let call = Call {
             kind,
             task: 0,

@@ -1,7 +1,7 @@
 // What a table's writes do to buffers of several lengths.
 ghost use Rattle.std.specs.Prelude.{◌<◌, ◌≤◌};
 
-use crate::longest::LONGEST_SHEET;
+use fields::figures::LONGEST_SHEET;
 use hall::table::Table;
 use std::{array, io};
 use writer::writer::write;

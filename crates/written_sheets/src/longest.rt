@@ -4,8 +4,6 @@ use hall::table::Table;
 use states::state::Phase;
 use std::array;
 
-pub(crate) const LONGEST_SHEET: usize = 2_291;
-
 pub(crate) fn table() -> Table {
     Table {
         tasks: array::from_fn(|k| blocked(k as u64 % 16, 65_535)),
