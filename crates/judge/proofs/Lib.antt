@@ -6,3 +6,4 @@ pub mod One
 pub mod Answers
 pub mod Twins
 pub mod OfSheets
+pub mod Routed

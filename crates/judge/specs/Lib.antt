@@ -2,3 +2,4 @@ pub mod Routes
 pub mod Verdict
 pub mod Parts
 pub mod OfSheet
+pub mod Route

@@ -1,11 +1,12 @@
-ghost use Rattle.std.specs.Prelude.{◌≡◌, ◌≤◌};
+ghost use Rattle.std.specs.Prelude.{◌≡◌};
 ghost use Rattle.hall.specs.Parts.{BlockedSet};
 ghost use Rattle.judge.specs.Parts.{Seated, ByEvents, ByRoute};
-ghost use Rattle.judge.specs.Routes.{largest_route};
+ghost use Rattle.judge.specs.Route.{route_number};
 ghost use Rattle.judge.specs.Verdict.{verdict_of, Found, Judged};
 
 use crate::event_route::along_events;
 use crate::ring::ring_of;
+use crate::route::Route;
 use crate::task_route::along_tasks;
 use crate::verdict::Verdict;
 use answers::{DONE, Refusal};
@@ -19,20 +20,20 @@ use states::state::Task;
 pub const LARGEST_ROUTE: u64 = 2;
 
 // Whether a route goes by events: route 2 does where these are fewer than the blocked tasks, which is to say where two of them await the same one.
-fn by_events(tasks: [Task; 32], blocked: u32, route: u64) -> bool
-    ensures { (t : Table) → t.tasks ≡ tasks → BlockedSet t blocked → ByEvents t route result }
+fn by_events(tasks: [Task; 32], blocked: u32, route: Route) -> bool
+    ensures { (t : Table) → t.tasks ≡ tasks → BlockedSet t blocked → ByEvents t (route_number route) result }
 {
-    if route == 2 {
-        awaited_twice(tasks, blocked)
-    } else {
-        route == 1
+    match route {
+        Route::Tasks => false,
+        Route::Events => true,
+        Route::Fewer => awaited_twice(tasks, blocked),
     }
 }
 
 // Each of the two routes is called at one place only: called at two, it would be compiled as a function with a frame of its own.
-fn named_by(table: Table, seats: Seats, route: u64) -> u32
+fn named_by(table: Table, seats: Seats, route: Route) -> u32
     requires { Seated table seats }
-    ensures { ByRoute table route result }
+    ensures { ByRoute table (route_number route) result }
 {
     let tasks = table.tasks;
     if by_events(tasks, seats.all, route) {
@@ -61,10 +62,9 @@ fn verdict(named: u32, round: Option<Round>) -> Verdict
 }
 
 // The verdict of a sound table whose blocked tasks are known. Where nobody is blocked, or nobody is named, no more of the table is looked at.
-pub(crate) fn found(table: Table, blocked: u32, route: u64) -> Verdict
-    requires blocked { BlockedSet table blocked }
-    requires route { route ≤ largest_route }
-    ensures { Found table route result }
+pub(crate) fn found(table: Table, blocked: u32, route: Route) -> Verdict
+    requires { BlockedSet table blocked }
+    ensures { Found table (route_number route) result }
 {
     if blocked == 0 {
         return Verdict::nobody(DONE);
@@ -81,11 +81,9 @@ pub(crate) fn found(table: Table, blocked: u32, route: u64) -> Verdict
 pub fn judge(table: Table, route: u64) -> Verdict
     ensures { Judged table route result }
 {
-    if route > LARGEST_ROUTE {
-        return Verdict::nobody(Refusal::NoRoute.number());
+    match Route::try_from(route) {
+        Ok(_) if !table.is_sound() => Verdict::nobody(Refusal::NotSound.number()),
+        Ok(route) => found(table, table.blocked(), route),
+        Err(refusal) => Verdict::nobody(refusal.number()),
     }
-    if !table.is_sound() {
-        return Verdict::nobody(Refusal::NotSound.number());
-    }
-    found(table, table.blocked(), route)
 }

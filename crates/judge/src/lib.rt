@@ -5,5 +5,6 @@ pub mod event_route;
 pub mod judge;
 pub mod of_sheet;
 mod ring;
+pub mod route;
 pub mod task_route;
 pub mod verdict;

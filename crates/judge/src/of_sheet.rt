@@ -2,9 +2,9 @@
 // sheet's table is sound, and the reader hands over who is blocked.
 ghost use Rattle.judge.specs.OfSheet.{VerdictOf};
 
-use crate::judge::{LARGEST_ROUTE, found};
+use crate::judge::found;
+use crate::route::Route;
 use crate::verdict::Verdict;
-use answers::Refusal;
 use hall::table::Table;
 use sheet::reader::read_with_blocked;
 
@@ -12,9 +12,10 @@ use sheet::reader::read_with_blocked;
 pub fn verdict_of(bytes: &[u8], route: u64) -> Verdict
     ensures { VerdictOf bytes.now route result }
 {
-    if route > LARGEST_ROUTE {
-        return Verdict::nobody(Refusal::NoRoute.number());
-    }
+    let route = match Route::try_from(route) {
+        Ok(route) => route,
+        Err(refusal) => return Verdict::nobody(refusal.number()),
+    };
     let mut table = Table::fresh();
     match read_with_blocked(bytes, &mut table) {
         Ok(blocked) => found(table, blocked, route),
