@@ -74,6 +74,7 @@ with_tasks tasks = record { tasks = tasks; opened = []; phases = []; members = [
 
 pub one_answer : OneAnswer
 one_answer = record {
+  answers = λ κ a r r' e e'. both;
   sets = (
     λ κ a r r' e e'. has_one (Has a.0 a.1.0) r r',
     λ κ a r r' e e'. same_members _ r r',
@@ -105,11 +106,11 @@ one_answer = record {
     λ κ a r r' e e'. both,
     λ κ a r r' e e'. both,
     λ κ a r r' e e'. both,
-    λ κ a r r' e e'. both,
-    λ κ a r r' e e'. both,
-    λ κ a r r' e e'. both,
-    λ κ a r r' e e'. both,
-    λ κ a r r' e e'. both,
+    λ κ a r r' e e' p q. result_one r r' (both p q) (λ x y i j. refl),
+    λ κ a r r' e e' p q. result_one r r' (both p q) (λ x y i j. refl),
+    λ κ a r r' e e' p q. result_one r r' (both p q) (λ x y i j. refl),
+    λ κ a r r' e e' p q. result_one r r' (both p q) (λ x y i j. refl),
+    λ κ a r r' e e' p q. result_one r r' (both p q) (λ x y i j. refl),
   );
   seating = (
     λ κ a r r' e e'. seats_in_one a.0 a.1.0 a.1.1.0 r r',

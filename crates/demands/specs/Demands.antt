@@ -1,6 +1,6 @@
 -- Document 00: "Three things must hold before I peel that off the exercise dial." The functions of this crate hand on what the public functions below
 -- them hand back, and promise these records of it, a field a sentence: so each is about what the code does, and would fail if the code promised less.
-use Rattle.std.specs.Prelude.{◌≡◌, ◌↔◌, true, List, [], ◌∷◌, ℕ, ◌<◌, ◌≤◌, length, drop, take}
+use Rattle.std.specs.Prelude.{◌≡◌, ◌↔◌, true, Some, List, [], ◌∷◌, ℕ, ◌<◌, ◌≤◌, length, drop, take}
 use Rattle.sets.specs.Set.{Has, size}
 use Rattle.deadlock.specs.Ring.{RingIn}
 use Rattle.answers.specs.Answers.{done, no_kind, not_sound as table_unsound, among, no_route as no_such_route, short_strip, short_buffer}
@@ -118,7 +118,7 @@ pub record NamesTheStuck (t : Table) (v : Verdict) : Type 0 where
   pub stands : (M : PhaserMap) × (T : TaskMap) × StandsFor t M T
   -- "The count is the number of set bits in the mask", and the ring is the named tasks' (document 01)
   pub count : v.count ≡ size v.named 32
-  pub ring : RingIn (Has v.named) (ImpedesTask t) (record { closed = true; length = v.length; tasks = v.ring })
+  pub ring : RingIn (Has v.named) (ImpedesTask t) (Some (record { length = v.length; tasks = v.ring }))
 
 -- ---- 3. "A blocked task is among them exactly when no series of accepted calls, however long and by whichever tasks, could ever contain an accepted
 -- release of it."

@@ -2,6 +2,7 @@
 -- lent byte. That two answers allowed by it are equal is itself proved". Each public function of the library, by crates. `Learnt` is what a caller learns
 -- of a call: the function's own `ensures`, as the checker has it, over the arguments, the result and what was lent, as it is after the call.
 use Rattle.std.specs.Prelude.{◌≡◌, List, ℕ}
+use Rattle.answers.proofs.Refusal.number.Reads as answers_number
 use Rattle.sets.proofs.has.Reads as sets_has
 use Rattle.sets.proofs.only.Reads as sets_only
 use Rattle.sets.proofs.common.Reads as sets_common
@@ -99,6 +100,7 @@ OneLent {L} {B} {A} {R} {E} lent Learnt =
 
 -- of each crate, in the order of its files
 pub record OneAnswer : Type 1 where
+  pub answers : One answers_number.Learnt
   pub sets : One sets_has.Learnt × One sets_only.Learnt × One sets_common.Learnt × One sets_either.Learnt × One sets_less.Learnt
       × One sets_take.Learnt × One sets_kept.Learnt × One sets_marked.Learnt × One sets_size.Learnt × One sets_lowest.Learnt × One sets_rest.Learnt
       × One sets_until.Learnt
