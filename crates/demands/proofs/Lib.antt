@@ -15,4 +15,5 @@ pub mod OfTables
 pub mod OfFiles
 pub mod WholeFiles
 pub mod OneStep
+pub mod Named
 pub mod OneAnswers

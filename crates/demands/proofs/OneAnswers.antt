@@ -34,6 +34,7 @@ use Rattle.writer.proofs.Theorems.{written_one}
 use Rattle.sheet_call.proofs.Theorems.{handed_one}
 use Rattle.mollavisce.proofs.One.{sheet_judged_one, entered_one}
 use Rattle.demands.specs.OneAnswer.{One, OneLent, OneAnswer}
+use Rattle.demands.proofs.Named.{kind_one, next_one, route_one}
 use Rattle.demands.proofs.OfTables.{rewritten_one}
 use Rattle.demands.proofs.OneStep.{step_one}
 use Rattle.demands.proofs.calls.call.Reads as own_call
@@ -87,7 +88,8 @@ one_answer = record {
     λ κ a r r' e e'. both,
     λ κ a r r' e e'. lowest_one a.0 r r',
     λ κ a r r' e e'. by_lowest_one a.0 r r' _,
-    λ κ a r r' e e'. by_lowest_one a.0 r r' _,
+    λ κ a r r' e e' p q. ap (λ (n : ℕ). record { left = n }) (both p q),
+    λ κ a r r' e e' p q. next_one a.0.now.left r r' e.0.now.left e'.0.now.left p.0 q.0,
   );
   deadlock = (
     λ κ a r r' e e'. named_one (Row a.1.0 a.0) r r',
@@ -140,6 +142,7 @@ one_answer = record {
     λ κ a r r' e e'. both,
     λ κ a r r' e e'. both,
     λ κ a r r' e e'. both,
+    λ κ a r r' e e'. kind_one a.0 r r',
   );
   density = (
     λ κ a r r' e e'. density_one a.0 r r',
@@ -151,6 +154,7 @@ one_answer = record {
     λ κ a r r' e e'. judged_one a.0 a.1.0 r r',
     λ κ a r r' e e'. sheet_judged_one _ a.1.0 r r',
     λ κ a r r' e e'. both,
+    λ κ a r r' e e'. route_one a.0 r r',
   );
   text = (
     λ κ a r r' e e' p q. both p.0 q.0,

@@ -14,7 +14,8 @@ use Rattle.sets.proofs.marked.Reads as sets_marked
 use Rattle.sets.proofs.size.Reads as sets_size
 use Rattle.sets.proofs.lowest.Reads as sets_lowest
 use Rattle.sets.proofs.rest.Reads as sets_rest
-use Rattle.sets.proofs.until.Reads as sets_until
+use Rattle.sets.proofs.each.Reads as sets_each
+use Rattle.sets.proofs.RisingIterator.next.Reads as sets_next
 use Rattle.deadlock.proofs.elimination.named.Reads as deadlock_named
 use Rattle.deadlock.proofs.ring.ring.Reads as deadlock_ring
 use Rattle.states.proofs.state.State.is_free.Reads as states_is_free
@@ -59,6 +60,7 @@ use Rattle.hall.proofs.table.Table.wait.Reads as hall_wait
 use Rattle.hall.proofs.table.Table.wait_at.Reads as hall_wait_at
 use Rattle.hall.proofs.table.Table.release.Reads as hall_release
 use Rattle.hall.proofs.table.Table.call.Reads as hall_call
+use Rattle.hall.proofs.kind.KindTryFromU64.try_from.Reads as hall_kind
 use Rattle.density.proofs.density.density_of.Reads as density_density_of
 use Rattle.density.proofs.events.awaited_twice.Reads as density_awaited_twice
 use Rattle.judge.proofs.task_route.task_route.Reads as judge_task_route
@@ -66,6 +68,7 @@ use Rattle.judge.proofs.event_route.event_route.Reads as judge_event_route
 use Rattle.judge.proofs.judge.judge.Reads as judge_judge
 use Rattle.judge.proofs.of_sheet.verdict_of.Reads as judge_verdict_of
 use Rattle.judge.proofs.verdict.Verdict.nobody.Reads as judge_nobody
+use Rattle.judge.proofs.route.RouteTryFromU64.try_from.Reads as judge_route
 use Rattle.text.proofs.verdict.text_of.Reads as text_text_of
 use Rattle.text.proofs.densities.sheet_line.Reads as text_sheet_line
 use Rattle.text.proofs.densities.total_line.Reads as text_total_line
@@ -98,12 +101,13 @@ abbrev pub OneLent : {L B : Type 0} {A R E : L → Type 0} → ((κ : L) → E �
 OneLent {L} {B} {A} {R} {E} lent Learnt =
     (κ : L) (a : A κ) (r r' : R κ) (e e' : E κ) → Learnt κ a r e → Learnt κ a r' e' → (r ≡ r') × (lent κ e ≡ lent κ e')
 
--- of each crate, in the order of its files
+-- of each crate, in the order of its files. What `sets::those` and `sets::first` find hangs on the test that they are handed: of one that says one thing
+-- of each task, `those_one` and `first_one` (sets/proofs/One.antt) say the same
 pub record OneAnswer : Type 1 where
   pub answers : One answers_number.Learnt
   pub sets : One sets_has.Learnt × One sets_only.Learnt × One sets_common.Learnt × One sets_either.Learnt × One sets_less.Learnt
       × One sets_take.Learnt × One sets_kept.Learnt × One sets_marked.Learnt × One sets_size.Learnt × One sets_lowest.Learnt × One sets_rest.Learnt
-      × One sets_until.Learnt
+      × One sets_each.Learnt × OneLent (λ κ e. e.0.now.left) sets_next.Learnt
   pub deadlock : One deadlock_named.Learnt × One deadlock_ring.Learnt
   pub states : One states_is_free.Learnt × One states_is_live.Learnt × One states_is_running.Learnt × One states_is_blocked.Learnt
       × One states_entry_sound.Learnt × One states_state_sound.Learnt × One states_behind.Learnt × One states_column.Learnt
@@ -116,9 +120,10 @@ pub record OneAnswer : Type 1 where
       × One hall_edges.Learnt
       × One hall_open_task.Learnt × One hall_end_task.Learnt × One hall_open_phaser.Learnt × One hall_close_phaser.Learnt × One hall_admit.Learnt
       × One hall_leave.Learnt × One hall_arrive.Learnt × One hall_wait.Learnt × One hall_wait_at.Learnt × One hall_release.Learnt
-      × One hall_call.Learnt
+      × One hall_call.Learnt × One hall_kind.Learnt
   pub density : One density_density_of.Learnt × One density_awaited_twice.Learnt
   pub judge : One judge_task_route.Learnt × One judge_event_route.Learnt × One judge_judge.Learnt × One judge_verdict_of.Learnt × One judge_nobody.Learnt
+      × One judge_route.Learnt
   pub text : One text_text_of.Learnt × One text_sheet_line.Learnt × One text_total_line.Learnt × One text_stopped_line.Learnt
   pub fields : One fields_plain.Learnt × One fields_number.Learnt × One fields_rising.Learnt × One fields_ended.Learnt
   pub sheet : OneLent (λ κ e. e.1.0.now) sheet_read_with_blocked.Learnt × OneLent (λ κ e. e.1.0.now) sheet_read.Learnt
