@@ -3,8 +3,10 @@ use Rattle.std.proofs.Common.{◌≡◌, ℕ, ◌≤◌, refl, sym, ap, ◌∙�
 use native.Mathlib.Omega.{arith}
 use Rattle.answers.specs.Answers.{number_of}
 use Rattle.answers.specs.declared.Refusal.{Refusal}
-use Rattle.answers.specs.declared.Refusal.TheVariants.{NoTask, NoPhaser, CallerBlocked, TargetBlocked, NotMember, AlreadyMember, PhaseTooLarge, NoneFree, NotBlocked, NotReached, InUse, NoStep}
-use Rattle.answers.specs.declared.Refusal.TheVariants.{EndsInside, NeedlessGroup, TooLarge, NotRising, Unknown, BytesAfter, NotOpen, ShortStrip, NoRoute, NoKind, NotSound, ShortBuffer}
+use Rattle.answers.specs.declared.Refusal.TheVariants.{NoTask, NoPhaser, CallerBlocked, TargetBlocked, NotMember, AlreadyMember}
+use Rattle.answers.specs.declared.Refusal.TheVariants.{PhaseTooLarge, NoneFree, NotBlocked, NotReached, InUse, NoStep}
+use Rattle.answers.specs.declared.Refusal.TheVariants.{EndsInside, NeedlessGroup, TooLarge, NotRising, Unknown, BytesAfter}
+use Rattle.answers.specs.declared.Refusal.TheVariants.{NotOpen, ShortStrip, NoRoute, NoKind, NotSound, ShortBuffer}
 
 pub number_high : (r : Refusal) → 10 ≤ number_of r
 number_high NoTask = omega arith

@@ -1,8 +1,10 @@
 -- Document 01, 'Answer numbers', in its order. From 10 up they are refusals.
 use Rattle.std.specs.Prelude.{Bool, false, ◌||◌, List, [], ◌∷◌, ℕ, eqb, Result, Ok, Err}
 use Rattle.answers.specs.declared.Refusal.{Refusal}
-use Rattle.answers.specs.declared.Refusal.TheVariants.{NoTask, NoPhaser, CallerBlocked, TargetBlocked, NotMember, AlreadyMember, PhaseTooLarge, NoneFree, NotBlocked, NotReached, InUse, NoStep}
-use Rattle.answers.specs.declared.Refusal.TheVariants.{EndsInside, NeedlessGroup, TooLarge, NotRising, Unknown, BytesAfter, NotOpen, ShortStrip, NoRoute, NoKind, NotSound, ShortBuffer}
+use Rattle.answers.specs.declared.Refusal.TheVariants.{NoTask, NoPhaser, CallerBlocked, TargetBlocked, NotMember, AlreadyMember}
+use Rattle.answers.specs.declared.Refusal.TheVariants.{PhaseTooLarge, NoneFree, NotBlocked, NotReached, InUse, NoStep}
+use Rattle.answers.specs.declared.Refusal.TheVariants.{EndsInside, NeedlessGroup, TooLarge, NotRising, Unknown, BytesAfter}
+use Rattle.answers.specs.declared.Refusal.TheVariants.{NotOpen, ShortStrip, NoRoute, NoKind, NotSound, ShortBuffer}
 
 -- 0 / 1 / 2: done / wait passed / now blocked
 abbrev pub done : ℕ

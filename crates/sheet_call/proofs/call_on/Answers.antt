@@ -1,9 +1,8 @@
 -- 42, the sheet's own refusal; else what was handed over is the call on the sheet's table.
-use mathlib.Core.Path.{◌≡◌, sym, ap, ◌∙◌}
+use mathlib.Core.Path.{sym, ap, ◌∙◌}
 use Prim.Native.Nat.{◌<◌}
 use native.Mathlib.Omega.{arith}
 use Rattle.std.proofs.lemmas.Result.{err_from_is_err_and}
-use Rattle.answers.specs.Answers.{number_of}
 use Rattle.answers.proofs.Numbers.{number_high}
 use Rattle.hall.specs.Calls.{kind_count, call_of}
 use Rattle.hall.proofs.Numbered.{kind_below}
