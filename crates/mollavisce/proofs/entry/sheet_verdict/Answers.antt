@@ -14,7 +14,7 @@ use Rattle.mollavisce.proofs.entry.sheet_verdict.Goals as goal
 
 -- past the first test the route is one of the judge's
 within : (c : In_default) → c.args.route ≤ largest_route
-within c = rw (← c.in_default.ensures) (route_within _)
+within c = let l = route_within c.in_default.field-0 in omega (arith, c.in_default.ensures)
 
 pub returns-then-answer-ne-DONE : goal.returns-then-answer-ne-DONE
 unfolding strip_after
