@@ -1,10 +1,19 @@
 // Document 01, 'The ten calls': the kinds of call, by their numbers.
+ghost use Rattle.std.specs.Prelude.{◌≡◌};
+ghost use Rattle.hall.specs.Calls.{kind_count};
 ghost use Rattle.hall.specs.Kind.{KindOf};
 
 use answers::Refusal;
 
 // "Kinds of call run from 0 to 9": so many there are.
 pub const KINDS: u64 = 10;
+
+// No other promise names it, so this holds it to its definition.
+fn kinds() -> u64
+    ensures { result ≡ kind_count }
+{
+    KINDS
+}
 
 #[derive(Clone, Copy, Debug, PartialEq, Eq)]
 pub enum Kind {

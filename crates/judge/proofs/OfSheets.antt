@@ -14,27 +14,28 @@ use Rattle.sheet.proofs.Theorems.{accepts}
 use Rattle.states.proofs.Truth.{clash}
 use Rattle.judge.specs.OfSheet.{VerdictOf}
 use Rattle.judge.specs.Routes.{largest_route}
-use Rattle.judge.specs.Verdict.{Found}
+use Rattle.judge.specs.Verdict.{nobody, Found}
 use Rattle.judge.specs.declared.verdict.Verdict.{Verdict}
 
-module _ (sheet : List ℕ) (bytes : Bytes sheet) (t : Table) (read : hands done t ≡ sheet_at sheet) where
+module _ (sheet : List ℕ) (bytes : Bytes sheet) (t : Table) (refusal : ℕ) (read : hands refusal t ≡ sheet_at sheet) where
   -- what was read, and what the sheet says
-  answer : (sheet_at sheet).answer ≡ done
+  answer : (sheet_at sheet).answer ≡ refusal
   answer = ap (λ (s : Sheet). s.answer) (sym read)
 
   table : (sheet_at sheet).table ≡ t
   table = ap (λ (s : Sheet). s.table) (sym read)
 
-  sound : sound_of t ≡ true
-  sound = (sound_iff t).1 ((accepts sheet bytes t).0 (answer, table)).0
+  sound : (sheet_at sheet).answer ≡ done → sound_of t ≡ true
+  sound e = (sound_iff t).1 ((accepts sheet bytes t).0 (e, table)).0
 
-  pub verdict_read : (route : ℕ) (v : Verdict) → route ≤ largest_route → Found t route v → VerdictOf sheet route v
-  verdict_read route v l found = record {
+  pub verdict_read : (route : ℕ) (v : Verdict) → route ≤ largest_route → ((refusal ≡ done → ⊥) → v ≡ nobody refusal) → (refusal ≡ done → Found t route v)
+      → VerdictOf sheet route v
+  verdict_read route v l refused found = record {
     no_route = λ n. absurd (omega arith);
-    refused = λ _ n. absurd (n answer);
+    refused = λ _ n. refused (λ e. n (answer ∙ e)) ∙ ap nobody (sym answer);
     judged = λ _ e. record {
       no_route = λ n. absurd (omega arith);
-      unsound = λ _ u. absurd (clash sound (ap sound_of (sym table) ∙ u));
-      found = λ _ _. subst (λ u. Found u route v) (sym table) found;
+      unsound = λ _ u. absurd (clash (sound e) (ap sound_of (sym table) ∙ u));
+      found = λ _ _. subst (λ u. Found u route v) (sym table) (found (sym answer ∙ e));
     };
   }

@@ -2,6 +2,7 @@ ghost use Rattle.std.specs.Prelude.{◌≡◌};
 ghost use Rattle.hall.specs.Parts.{BlockedSet};
 ghost use Rattle.judge.specs.Parts.{Seated, ByEvents, ByRoute};
 ghost use Rattle.judge.specs.Route.{route_number};
+ghost use Rattle.judge.specs.Routes.{largest_route};
 ghost use Rattle.judge.specs.Verdict.{verdict_of, Found, Judged};
 
 use crate::event_route::along_events;
@@ -18,6 +19,13 @@ use states::state::Task;
 
 // "41 from now on for routes over 2" (document 02, M-101)
 pub const LARGEST_ROUTE: u64 = 2;
+
+// No other promise names it, so this holds it to its definition.
+fn largest_route() -> u64
+    ensures { result ≡ largest_route }
+{
+    LARGEST_ROUTE
+}
 
 // Whether a route goes by events: route 2 does where these are fewer than the blocked tasks, which is to say where two of them await the same one.
 fn by_events(tasks: [Task; 32], blocked: u32, route: Route) -> bool

@@ -3,7 +3,7 @@ ghost use Rattle.mollavisce.specs.Entry.{Entered};
 ghost use Rattle.judge.specs.OfSheet.{VerdictOf};
 
 use answers::{DONE, Refusal};
-use judge::judge::LARGEST_ROUTE;
+use judge::route::Route;
 use judge::verdict::Verdict;
 
 // What the judge says of the table that a sheet holds.
@@ -17,8 +17,8 @@ pub fn verdict_of(bytes: &[u8], route: u64) -> Verdict
 pub fn sheet_verdict(sheet: &[u8], route: u64, strip: &mut [u8]) -> u32
     ensures { Entered sheet.now route strip.old strip.new result }
 {
-    if LARGEST_ROUTE < route {
-        return Refusal::NoRoute.number();
+    if let Err(refusal) = Route::try_from(route) {
+        return refusal.number();
     }
     if strip.len() < 38 {
         return Refusal::ShortStrip.number();

@@ -17,7 +17,7 @@ fn put_state(buffer: &mut [u8], at: usize, state: State) -> usize
         State::Blocked(event) => {
             let awaited = put(buffer, at, 1);
             let phased = put(buffer, awaited, event.phaser.0);
-            put(buffer, phased, event.phase.0 as u64)
+            put(buffer, phased, u64::from(event.phase.0))
         }
     }
 }
@@ -54,7 +54,7 @@ pub(crate) fn put_membership(
 {
     if member {
         let phased = put(buffer, at, phaser);
-        put(buffer, phased, phase.0 as u64)
+        put(buffer, phased, u64::from(phase.0))
     } else {
         at
     }

@@ -10,7 +10,7 @@ put-requires c = omega (arith, number_ends _ c.put-phased.ensures, c.requires)
 pub returns-then-member : goal.returns-then-member
 unfolding if_there
 returns-then-member c =
-    rw c.if-member.true (laid_both c.put-phased.ensures c.put.ensures)
+    rw c.if-member.true (laid_both c.put-phased.ensures (rw c.from.ensures at c.put.ensures))
 
 pub returns-else-member : goal.returns-else-member
 unfolding if_there

@@ -14,4 +14,4 @@ put-requires-in-Blocked c =
 pub returns-in-Blocked : goal.returns-in-Blocked
 returns-in-Blocked c =
     rw c.in-Blocked.is
-    (laid_both c.put-awaited.ensures (laid_both c.put-phased.ensures c.put-in-Blocked.ensures))
+    (laid_both c.put-awaited.ensures (laid_both c.put-phased.ensures (rw c.from.ensures at c.put-in-Blocked.ensures)))
