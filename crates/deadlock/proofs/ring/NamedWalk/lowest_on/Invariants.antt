@@ -2,7 +2,7 @@
 use mathlib.Core.Path.{◌≡◌}
 use Prim.Native.Nat.{◌-◌}
 use Rattle.deadlock.specs.Parts.{low_of}
-use Rattle.deadlock.proofs.ring.lowest_on.Given as goal
+use Rattle.deadlock.proofs.ring.NamedWalk.lowest_on.Given as goal
 
 abbrev pub invariant-loop-more : goal.invariant-loop-more
-invariant-loop-more l = low_of l.next l.named l.from l.from l.steps ≡ low_of l.next l.named l.task l.low (l.steps - l.more)
+invariant-loop-more l = low_of l.self.next l.self.named l.from l.from l.steps ≡ low_of l.self.next l.self.named l.task l.low (l.steps - l.more)

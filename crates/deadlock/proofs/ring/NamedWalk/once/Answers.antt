@@ -1,9 +1,12 @@
 use mathlib.Core.Path.{◌≡◌}
 use Prim.Native.Nat.{◌<◌}
 use native.Mathlib.Omega.{arith}
+use borrow.Author.Rules.{rules}
+use mir.Syntax.{w32}
+use mir.Val.{Fits}
 use Rattle.deadlock.proofs.Stepping.{step_le}
 use Rattle.deadlock.proofs.Turns.{turn_more, turn_back, turn_all}
-use Rattle.deadlock.proofs.ring.once.Goals as goal
+use Rattle.deadlock.proofs.ring.NamedWalk.once.Goals as goal
 
 pub returns-then-task-low : goal.returns-then-task-low
 returns-then-task-low c =
@@ -15,7 +18,8 @@ pub loop-i-preserved : goal.loop-i-preserved
 loop-i-preserved c =
     let l = c.loop-i in
     let e = c.after-task.ensures in
-    let z = step_le c.args.next c.args.named l.task c.ranges.named.fits in
+    let f : Fits w32 c.args.self.named = search rules in
+    let z = step_le c.args.self.next c.args.self.named l.task f.fits in
     let h : l.i < 32 = omega arith in
     turn_more _ _ _ _ l.task l.i l.invariant h _ e c.if-task-low.false (omega arith)
 

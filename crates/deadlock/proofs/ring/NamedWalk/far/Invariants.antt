@@ -2,7 +2,7 @@
 use mathlib.Core.Path.{◌≡◌}
 use Prim.Native.Nat.{◌-◌}
 use Rattle.deadlock.specs.Parts.{go_of}
-use Rattle.deadlock.proofs.ring.far.Given as goal
+use Rattle.deadlock.proofs.ring.NamedWalk.far.Given as goal
 
 abbrev pub invariant-loop-step : goal.invariant-loop-step
-invariant-loop-step l = go_of l.next l.named l.from l.steps ≡ go_of l.next l.named l.task (l.steps - l.step)
+invariant-loop-step l = go_of l.self.next l.self.named l.from l.steps ≡ go_of l.self.next l.self.named l.task (l.steps - l.step)
