@@ -2,7 +2,6 @@
 use mathlib.Core.Path.{◌≡◌, refl, ap, sym, ◌∙◌, subst}
 use native.Mathlib.Omega.{arith}
 use Rattle.std.proofs.Common.{Result, Ok, Err}
-use Rattle.std.proofs.lemmas.Result.{IfOk-at_ok}
 use Rattle.answers.specs.Answers.{answer_of}
 use Rattle.answers.specs.declared.Refusal.{Refusal}
 use Rattle.answers.proofs.Numbers.{number_high, number_one}
@@ -68,6 +67,13 @@ read_one_lem : {A : Type 0} (r r' : Result A Refusal) {t u : Table} → hands (a
 read_one_lem r r' same h =
     let table = ap (λ (s : Sheet). s.table) same in
     (result_one r r' (ap (λ (s : Sheet). s.answer) same) (λ a b. h a b table), table)
+
+-- what is read with its blocked tasks, which the table fixes
+blocked_read_one : {A : Type 0} {r r' : A} {t u : Table} {m n : ℕ} → (r ≡ r') × (t ≡ u) → BlockedSet t m → BlockedSet u n
+    → (r ≡ r') × (◌≡◌ {A = Table × ℕ} (t, m) (u, n))
+blocked_read_one {u = u} {m = m} {n = n} read x y =
+    let blocked = blocked_one u m n (subst (λ v. BlockedSet v m) read.1 x) y in
+    (read.0, λ i. (read.1 i, blocked i))
 
 -- some table that has these tasks
 abbrev with_tasks : List Task → Table
@@ -169,9 +175,7 @@ one_answer = record {
     λ κ a r r' e e' p q. result_one r r' (both p q) (λ x y i j. refl),
   );
   sheet = (
-    λ κ a r r' e e' p q.
-        read_one_lem r r' (both p.0 q.0)
-        (λ x y t i j. blocked_one _ x y (subst (λ v. BlockedSet v x) t (IfOk-at_ok (BlockedSet _) i p.1)) (IfOk-at_ok (BlockedSet _) j q.1)),
+    λ κ a r r' e e' p q. blocked_read_one (read_one_lem r r' (both p.0 q.0) (λ x y t i j. refl)) p.1 q.1,
     λ κ a r r' e e' p q. read_one_lem r r' (both p q) (λ x y t i j. refl),
   );
   sheet_file = (

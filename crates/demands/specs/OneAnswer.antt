@@ -2,6 +2,7 @@
 -- lent byte. That two answers allowed by it are equal is itself proved". Each public function of the library, by crates. `Learnt` is what a caller learns
 -- of a call: the function's own `ensures`, as the checker has it, over the arguments, the result and what was lent, as it is after the call.
 use Rattle.std.specs.Prelude.{◌≡◌, List, ℕ}
+use Rattle.hall.specs.declared.table.Table.{Table}
 use Rattle.answers.proofs.Refusal.number.Reads as answers_number
 use Rattle.sets.proofs.has.Reads as sets_has
 use Rattle.sets.proofs.only.Reads as sets_only
@@ -126,7 +127,7 @@ pub record OneAnswer : Type 1 where
       × One judge_route.Learnt
   pub text : One text_text_of.Learnt × One text_sheet_line.Learnt × One text_total_line.Learnt × One text_stopped_line.Learnt
   pub fields : One fields_plain.Learnt × One fields_number.Learnt × One fields_rising.Learnt × One fields_ended.Learnt
-  pub sheet : OneLent (λ κ e. e.1.0.now) sheet_read_with_blocked.Learnt × OneLent (λ κ e. e.1.0.now) sheet_read.Learnt
+  pub sheet : OneLent {B = Table × ℕ} (λ κ e. (e.1.0.now, e.1.1.0.now)) sheet_read_with_blocked.Learnt × OneLent (λ κ e. e.1.0.now) sheet_read.Learnt
   pub sheet_file : One sheet_file_count.Learnt × One sheet_file_next_piece.Learnt × One sheet_file_wanted.Learnt × One sheet_file_none.Learnt
       × One sheet_file_with.Learnt × One sheet_file_done.Learnt
   pub writer : One writer_refused.Learnt × OneLent (λ κ e. e.1.1.0.now) writer_call_and_write.Learnt

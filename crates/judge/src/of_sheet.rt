@@ -17,8 +17,9 @@ pub fn verdict_of(bytes: &[u8], route: u64) -> Verdict
         Err(refusal) => return Verdict::nobody(refusal.number()),
     };
     let mut table = Table::fresh();
-    match read_with_blocked(bytes, &mut table) {
-        Ok(blocked) => found(table, blocked, route),
+    let mut blocked = 0;
+    match read_with_blocked(bytes, &mut table, &mut blocked) {
+        Ok(()) => found(table, blocked, route),
         Err(refusal) => Verdict::nobody(refusal.number()),
     }
 }

@@ -17,7 +17,7 @@ use Rattle.states.specs.declared.state.State.TheVariants.{Free}
 use Rattle.states.specs.declared.state.Task.{Task}
 use Rattle.states.proofs.Truth.{clash, holds, same_test}
 use Rattle.hall.specs.Parts.{BlockedSet}
-use Rattle.hall.specs.Table.{state_at}
+use Rattle.hall.specs.Table.{state_at, fresh_table}
 use Rattle.hall.specs.declared.table.Table.{Table}
 use Rattle.hall.proofs.Soundness.{get_d_all}
 use Rattle.hall.proofs.Places.{state_in, state_out}
@@ -30,6 +30,10 @@ nobody_blocked t e = record { iff = λ k. (λ h. absurd (none_has k h), λ b. ab
     free k (yes l) =
         state_in t k l ∙ ap (λ (tasks : List Task). (get_or tasks k free_task).state) e ∙ ap (λ (x : Task). x.state) (get_d_all 32 k free_task)
     free k (no l) = state_out t k (omega arith)
+
+pub nobody_fresh : (t : Table) → t ≡ fresh_table → BlockedSet t 0
+unfolding fresh_table
+nobody_fresh t e = nobody_blocked t (ap (λ (u : Table). u.tasks) e)
 
 -- a task whose state is written is marked as that state is, and the others stay as they were
 module _ (t u : Table) (k : ℕ) (s : State) (l : k < 32) (n : length t.tasks ≡ 32) (wrote : u.tasks ≡ set t.tasks k (record { state = s })) where

@@ -65,22 +65,29 @@ fn lay(sheet: &[u8], table: &mut Table) -> Result<u32, Refusal>
     Ok(blocked)
 }
 
-// The table of a sheet, and its blocked tasks; or the refusal, and a fresh table.
-pub fn read_with_blocked(sheet: &[u8], table: &mut Table) -> Result<u32, Refusal>
+// The table of a sheet, and its blocked tasks; or the refusal, a fresh table, and nobody.
+#[tactic(auto, using(crate::proofs::Marks::nobody_fresh))]
+pub fn read_with_blocked(sheet: &[u8], table: &mut Table, blocked: &mut u32) -> Result<(), Refusal>
     ensures read { hands (answer_of result) table.new ≡ sheet_at sheet.now }
-    ensures blocked { IfOk result (λ blocked. BlockedSet table.new blocked) }
+    ensures blocked { BlockedSet table.new blocked.new }
 {
-    let laid = lay(sheet, table);
-    if laid.is_err() {
-        *table = Table::fresh();
+    match lay(sheet, table) {
+        Ok(waiting) => {
+            *blocked = waiting;
+            Ok(())
+        }
+        Err(refusal) => {
+            *blocked = 0;
+            *table = Table::fresh();
+            Err(refusal)
+        }
     }
-    laid
 }
 
 // The table of a sheet; or the refusal, and a fresh table.
 pub fn read(sheet: &[u8], table: &mut Table) -> Result<(), Refusal>
     ensures { hands (answer_of result) table.new ≡ sheet_at sheet.now }
 {
-    read_with_blocked(sheet, table)?;
-    Ok(())
+    let mut blocked = 0;
+    read_with_blocked(sheet, table, &mut blocked)
 }
