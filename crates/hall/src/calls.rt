@@ -4,7 +4,6 @@ ghost use Rattle.answers.specs.Answers.{number_of};
 ghost use Rattle.hall.specs.Table.{entry_of};
 ghost use Rattle.hall.specs.Effects.{with_state, with_entry, with_open, without_entries};
 ghost use Rattle.hall.specs.Calls.{called, refused, open_task_of, end_task_of, open_phaser_of, close_phaser_of, admit_of};
-ghost use Rattle.hall.specs.Kind.{kind_number};
 ghost use Rattle.hall.specs.Calls.{leave_of, arrive_of, waits, wait_of, wait_at_of, release_of, call_of};
 
 use crate::kind::Kind;
@@ -235,21 +234,14 @@ impl Table {
     }
 
     // "any other kind is 42, tested before all else"
-    #[tactic(auto, using(crate::proofs::ByEffect::no_kind_refused))]
+    #[tactic(auto, using(crate::proofs::ByEffect::no_kind_refused), unfolding(crate::specs::Calls::call_of))]
     pub fn call(self, call: Call) -> Called
         ensures { result ≡ call_of self call }
     {
-        match Kind::try_from(call.kind) {
-            Ok(kind) => self.call_of(kind, call),
-            Err(refusal) => self.refused(refusal),
-        }
-    }
-
-    #[tactic(auto, unfolding(crate::specs::Calls::call_of))]
-    fn call_of(self, kind: Kind, call: Call) -> Called
-        requires { kind_number kind ≡ call.kind }
-        ensures { result ≡ call_of self call }
-    {
+        let kind = match Kind::try_from(call.kind) {
+            Ok(kind) => kind,
+            Err(refusal) => return self.refused(refusal),
+        };
         let task = TaskNo(call.task);
         let phaser = PhaserNo(call.phaser);
         match kind {

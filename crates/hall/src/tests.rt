@@ -6,7 +6,7 @@ ghost use Rattle.hall.specs.Tests.{lowest_free, lowest_unopened, unused, seen_at
 
 use crate::table::Table;
 use answers::Refusal;
-use states::state::{PhaserNo, State, TaskNo};
+use states::state::{Phase, PhaserNo, State, TaskNo};
 use states::tests::Seen;
 use states::waiting::waits_at;
 
@@ -41,16 +41,30 @@ impl Table {
         true
     }
 
-    // What a row sees of a task and a phaser.
+    // What a row sees of a task and a phaser. It is read here and not by a method for each part, since each method on a table copies the table.
+    #[tactic(auto, unfolding(crate::specs::Table::state_at, crate::specs::Table::open_at, crate::specs::Table::member_at, crate::specs::Table::phase_at))]
     pub(crate) fn seen(self, task: TaskNo, phaser: PhaserNo) -> Seen
         ensures { result ≡ seen_at self task.0 phaser.0 }
     {
+        let sound = self.is_sound();
+        let state = if task.0 < 32 {
+            self.tasks[task.0 as usize].state
+        } else {
+            State::Free
+        };
+        let opened = phaser.0 < 16 && self.opened[phaser.0 as usize];
+        let (member, phase) = if task.0 < 32 && phaser.0 < 16 {
+            let i = (task.0 * 16 + phaser.0) as usize;
+            (self.members[i], self.phases[i])
+        } else {
+            (false, Phase(0))
+        };
         Seen {
-            sound: self.is_sound(),
-            state: self.state_at(task),
-            opened: self.open_at(phaser),
-            member: self.member_at(task, phaser),
-            phase: self.phase_at(task, phaser),
+            sound,
+            state,
+            opened,
+            member,
+            phase,
         }
     }
 
